@@ -1,0 +1,10 @@
+-- The laws of the division library.
+pub mod Xor
+pub mod Dividing
+pub mod Shifting
+pub mod Reading
+pub mod Bytes
+pub mod Table
+pub mod Fields
+pub mod Tests
+pub mod Laws

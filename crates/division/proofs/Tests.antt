@@ -1,0 +1,130 @@
+-- The tests that pick an answer: what a test that passed, or failed, makes of the definition that picks by it.
+use mathlib.Core.Path.{_≡_, refl, sym, ap, ap₂, _∙_, subst}
+use mathlib.Core.Bool.{Bool, true, false}
+use mathlib.Core.Logic.{_⊎_, inl, inr}
+use mathlib.Core.List.{List, [], _∷_}
+use Prim.Native.Nat.{ℕ, _+_, _<_, _≤_, _^_}
+use native.Mathlib.Omega.{arith}
+use lib.Dec.{leb, eqb}
+use lib.ListN.{length}
+use borrow.Author.Tests.{leb-true, eqb-true, le-leb, eq-eqb}
+use Rattle.division.specs.Division.{remainder, backward, parity, overlay, addressRead}
+use Rattle.division.specs.Message.{number, either, isMessageLength, isFieldLength}
+use Rattle.division.specs.Answers.{Outcome, unless, isWord, said, parityAnswer, remainderAnswer, addressAnswer, overlayAnswer, backwardAnswer}
+use Rattle.division.specs.Answers.Outcome.{refusal, answer}
+use Rattle.division.specs.declared.Word.{Word}
+use Rattle.division.specs.declared.Word.the-variants.{Value, Refused}
+
+pub either-left : (a b : Bool) → a ≡ true → a ≡ either a b
+either-left a b e = e ∙ ap (λ (t : Bool). either t b) (sym e)
+
+pub either-right : (a b : Bool) → a ≡ false → b ≡ either a b
+either-right a b e = ap (λ (t : Bool). either t b) (sym e)
+
+either-cases : (a b : Bool) → either a b ≡ true → (a ≡ true) ⊎ (b ≡ true)
+either-cases true b e = inl refl
+either-cases false b e = inr e
+
+pub refused : (t : Bool) (n : ℕ) (a : Outcome) → t ≡ false → refusal n ≡ unless t n a
+refused t n a e = ap (λ (t : Bool). unless t n a) (sym e)
+
+pub passed : (t : Bool) (n : ℕ) (a b : Outcome) → t ≡ true → a ≡ b → a ≡ unless t n b
+passed t n a b e f = f ∙ ap (λ (t : Bool). unless t n b) (sym e)
+
+pub passed-value : (t : Bool) (n v w : ℕ) → t ≡ true → v ≡ w → answer 0 (v ∷ []) ≡ unless t n (answer 0 (w ∷ []))
+passed-value t n v w e f = passed t n (answer 0 (v ∷ [])) (answer 0 (w ∷ [])) e (ap (λ (x : ℕ). answer 0 (x ∷ [])) f)
+
+pub word-lt : (w : ℕ) → isWord w ≡ true → w < 2 ^ 24
+unfolding isWord
+word-lt w e = omega (arith, leb-true w 0xFFFFFF e)
+
+pub lt-word : (w : ℕ) → w < 2 ^ 24 → isWord w ≡ true
+unfolding isWord
+lt-word w h = le-leb w 0xFFFFFF (omega arith)
+
+pub message-length : (n : ℕ) → isMessageLength n ≡ true → (n ≡ 7) ⊎ (n ≡ 14)
+unfolding isMessageLength
+message-length n e = cases (either-cases (eqb n 7) (eqb n 14) e)
+  where
+    cases : (eqb n 7 ≡ true) ⊎ (eqb n 14 ≡ true) → (n ≡ 7) ⊎ (n ≡ 14)
+    cases (inl p) = inl (eqb-true n 7 p)
+    cases (inr p) = inr (eqb-true n 14 p)
+
+pub field-length : (n : ℕ) → isFieldLength n ≡ true → (n ≡ 4) ⊎ (n ≡ 11)
+unfolding isFieldLength
+field-length n e = cases (either-cases (eqb n 4) (eqb n 11) e)
+  where
+    cases : (eqb n 4 ≡ true) ⊎ (eqb n 11 ≡ true) → (n ≡ 4) ⊎ (n ≡ 11)
+    cases (inl p) = inl (eqb-true n 4 p)
+    cases (inr p) = inr (eqb-true n 11 p)
+
+pub message-length-ge : (n : ℕ) → isMessageLength n ≡ true → 3 ≤ n
+message-length-ge n e = cases (message-length n e)
+  where
+    cases : (n ≡ 7) ⊎ (n ≡ 14) → 3 ≤ n
+    cases (inl p) = omega arith
+    cases (inr p) = omega arith
+
+pub field-length-le : (n : ℕ) → isFieldLength n ≡ true → n ≤ 11
+field-length-le n e = cases (field-length n e)
+  where
+    cases : (n ≡ 4) ⊎ (n ≡ 11) → n ≤ 11
+    cases (inl p) = omega arith
+    cases (inr p) = omega arith
+
+-- different answers of the code are different answers of the paper
+pub said-injective : (v w : Word) → said v ≡ said w → v ≡ w
+said-injective (Value v) (Value w) e = cc
+said-injective (Value v) (Refused w) e = cc
+said-injective (Refused v) (Value w) e = cc
+said-injective (Refused v) (Refused w) e = cc
+
+-- ---- what a caller knows of a Word that is answered
+
+pub value-is : (w : Word) (v x : ℕ) → w ≡ Value v → said w ≡ answer 0 (x ∷ []) → v ≡ x
+value-is w v x e s = let h : answer 0 (v ∷ []) ≡ answer 0 (x ∷ []) = sym (ap said e) ∙ s in cc
+
+pub not-refused : (w : Word) (n x : ℕ) → w ≡ Refused n → said w ≡ answer 0 (x ∷ []) → ⊥
+not-refused w n x e s =
+    let h : refusal n ≡ answer 0 (x ∷ []) = sym (ap said e) ∙ s in
+    let z : _≡_ {A = ℕ} 0 1 = cc in
+    omega arith
+
+accepted : (t : Bool) (n : ℕ) (a : Outcome) → t ≡ true → unless t n a ≡ a
+accepted t n a e = ap (λ (t : Bool). unless t n a) e
+
+pub parity-value : (f : List ℕ) → isFieldLength (length f) ≡ true → parityAnswer f ≡ answer 0 (parity (number f) ∷ [])
+unfolding parityAnswer
+parity-value f e = accepted (isFieldLength (length f)) 1 (answer 0 (parity (number f) ∷ [])) e
+
+pub remainder-value : (m : List ℕ) → isMessageLength (length m) ≡ true → remainderAnswer m ≡ answer 0 (remainder (number m) ∷ [])
+unfolding remainderAnswer
+remainder-value m e = accepted (isMessageLength (length m)) 1 (answer 0 (remainder (number m) ∷ [])) e
+
+pub address-value : (m : List ℕ) → isMessageLength (length m) ≡ true → addressAnswer m ≡ answer 0 (addressRead (number m) ∷ [])
+unfolding addressAnswer
+address-value m e = accepted (isMessageLength (length m)) 1 (answer 0 (addressRead (number m) ∷ [])) e
+
+pub overlay-value : (a : ℕ) → a < 2 ^ 24 → overlayAnswer a ≡ answer 0 (overlay a ∷ [])
+unfolding overlayAnswer
+overlay-value a h = accepted (isWord a) 3 (answer 0 (overlay a ∷ [])) (lt-word a h)
+
+pub backward-value : (r : ℕ) → r < 2 ^ 24 → backwardAnswer r ≡ answer 0 (backward r ∷ [])
+unfolding backwardAnswer
+backward-value r h = accepted (isWord r) 3 (answer 0 (backward r ∷ [])) (lt-word r h)
+
+-- ---- the field of a message has a field's length
+
+pub field-is-field : (n k : ℕ) → isMessageLength n ≡ true → k + 3 ≡ n → isFieldLength k ≡ true
+unfolding isFieldLength
+field-is-field n k e s = cases (message-length n e)
+  where
+    cases : (n ≡ 7) ⊎ (n ≡ 14) → either (eqb k 4) (eqb k 11) ≡ true
+    cases (inl p) = let h : k ≡ 4 = omega arith in ap (λ (x : ℕ). either (eqb x 4) (eqb x 11)) h
+    cases (inr p) = let h : k ≡ 11 = omega arith in ap (λ (x : ℕ). either (eqb x 4) (eqb x 11)) h
+
+-- ---- a call that was answered passed its test
+
+pub unless-answer : (t : Bool) (n : ℕ) (a : Outcome) (r : ℕ) (vs : List ℕ) → unless t n a ≡ answer r vs → (t ≡ true) × (a ≡ answer r vs)
+unless-answer true n a r vs e = (refl, e)
+unless-answer false n a r vs e = let z : _≡_ {A = ℕ} 0 1 = cc in absurd (omega arith)

@@ -1,0 +1,2 @@
+-- The laws of the encoders.
+pub mod Sealing
