@@ -49,9 +49,9 @@ unfolding number
 number-append-byte n b l =
     sym (add-assoc (n * 2 ^ (8 * suc (length l))) (b * 2 ^ (8 * length l)) (number l))
     ∙ ap (λ (x : ℕ). x + number l)
-      (ap (λ (p : ℕ). n * p + b * 2 ^ (8 * length l)) (sym (byte-more (length l)))
-      ∙ ap (λ (p : ℕ). p + b * 2 ^ (8 * length l)) (sym (mul-assoc n (2 ^ 8) (2 ^ (8 * length l))))
-      ∙ sym (add-mul (n * 2 ^ 8) b (2 ^ (8 * length l))))
+    (ap (λ (p : ℕ). n * p + b * 2 ^ (8 * length l)) (sym (byte-more (length l)))
+    ∙ ap (λ (p : ℕ). p + b * 2 ^ (8 * length l)) (sym (mul-assoc n (2 ^ 8) (2 ^ (8 * length l))))
+    ∙ sym (add-mul (n * 2 ^ 8) b (2 ^ (8 * length l))))
 
 -- the part of a list from a place to its end
 pub part-from : (a : ℕ) (l : List ℕ) → take (length l - a) (drop a l) ≡ drop a l
@@ -151,7 +151,9 @@ number-injective (x ∷ k) (y ∷ l) hk hl e p =
   where
     lengths : length k ≡ length l
     lengths = omega arith
+
     same : x * 2 ^ (8 * length k) + number k ≡ y * 2 ^ (8 * length k) + number l
     same = p ∙ ap (λ (n : ℕ). y * 2 ^ (8 * n) + number l) (sym lengths)
+
     below : number l < 2 ^ (8 * length k)
     below = subst (λ (n : ℕ). number l < 2 ^ (8 * n)) (sym lengths) (number-lt l (bytes-tail y l hl))

@@ -131,10 +131,10 @@ pub remainder-small : (a : ℕ) → a < 2 ^ 24 → remainder a ≡ a
 remainder-small =
     bin-ind (λ (n : ℕ). n < 2 ^ 24 → remainder n ≡ n) (λ h. remainder-zero)
     (λ n ih h.
-      remainder-step n
-      ∙ ap (λ (r : ℕ). reduce (r * 2 + n % 2)) (ih (half-small n h))
-      ∙ ap reduce (div-add-mod' n 2)
-      ∙ reduce-small n h)
+    remainder-step n
+    ∙ ap (λ (r : ℕ). reduce (r * 2 + n % 2)) (ih (half-small n h))
+    ∙ ap reduce (div-add-mod' n 2)
+    ∙ reduce-small n h)
 
 -- one step is enough below x^25
 pub remainder-once : (v : ℕ) → v < 2 ^ 25 → remainder v ≡ reduce v
@@ -147,10 +147,10 @@ pub quotient-small : (a : ℕ) → a < 2 ^ 24 → quotient a ≡ 0
 quotient-small =
     bin-ind (λ (n : ℕ). n < 2 ^ 24 → quotient n ≡ 0) (λ h. quotient-zero)
     (λ n ih h.
-      quotient-step n
-      ∙ ap₂ (λ (q r : ℕ). q * 2 + (r * 2 + n % 2) / 2 ^ 24) (ih (half-small n h)) (remainder-small (n / 2) (half-small n h))
-      ∙ ap (λ (v : ℕ). 0 + v / 2 ^ 24) (div-add-mod' n 2)
-      ∙ ap (λ (t : ℕ). 0 + t) (div-eq-of-lt h))
+    quotient-step n
+    ∙ ap₂ (λ (q r : ℕ). q * 2 + (r * 2 + n % 2) / 2 ^ 24) (ih (half-small n h)) (remainder-small (n / 2) (half-small n h))
+    ∙ ap (λ (v : ℕ). 0 + v / 2 ^ 24) (div-add-mod' n 2)
+    ∙ ap (λ (t : ℕ). 0 + t) (div-eq-of-lt h))
 
 -- ---- linearity
 
@@ -165,30 +165,30 @@ remainder-xor =
     bin-ind (λ (a : ℕ). (b : ℕ) → remainder (bitXor a b) ≡ bitXor (remainder a) (remainder b))
     (λ b. ap (λ (r : ℕ). bitXor r (remainder b)) (sym remainder-zero))
     (λ a ih b.
-      remainder-step (bitXor a b)
-      ∙ ap (λ (r : ℕ). reduce (r * 2 + bitXor a b % 2)) (ap remainder (xor-half a b) ∙ ih (b / 2))
-      ∙ ap reduce (xor-next (remainder (a / 2)) (remainder (b / 2)) a b)
-      ∙ reduce-xor (remainder (a / 2) * 2 + a % 2) (remainder (b / 2) * 2 + b % 2) (next-remainder-lt a) (next-remainder-lt b)
-      ∙ sym (ap₂ bitXor (remainder-step a) (remainder-step b)))
+    remainder-step (bitXor a b)
+    ∙ ap (λ (r : ℕ). reduce (r * 2 + bitXor a b % 2)) (ap remainder (xor-half a b) ∙ ih (b / 2))
+    ∙ ap reduce (xor-next (remainder (a / 2)) (remainder (b / 2)) a b)
+    ∙ reduce-xor (remainder (a / 2) * 2 + a % 2) (remainder (b / 2) * 2 + b % 2) (next-remainder-lt a) (next-remainder-lt b)
+    ∙ sym (ap₂ bitXor (remainder-step a) (remainder-step b)))
 
 pub quotient-xor : (a b : ℕ) → quotient (bitXor a b) ≡ bitXor (quotient a) (quotient b)
 quotient-xor =
     bin-ind (λ (a : ℕ). (b : ℕ) → quotient (bitXor a b) ≡ bitXor (quotient a) (quotient b))
     (λ b. ap (λ (q : ℕ). bitXor q (quotient b)) (sym quotient-zero))
     (λ a ih b.
-      quotient-step (bitXor a b)
-      ∙ ap₂ (λ (q r : ℕ). q * 2 + (r * 2 + bitXor a b % 2) / 2 ^ 24)
-        (ap quotient (xor-half a b) ∙ ih (b / 2))
-        (ap remainder (xor-half a b) ∙ remainder-xor (a / 2) (b / 2))
-      ∙ ap (λ (v : ℕ). bitXor (quotient (a / 2)) (quotient (b / 2)) * 2 + v / 2 ^ 24)
-        (xor-next (remainder (a / 2)) (remainder (b / 2)) a b)
-      ∙ ap (λ (t : ℕ). bitXor (quotient (a / 2)) (quotient (b / 2)) * 2 + t)
-        (xor-shr (remainder (a / 2) * 2 + a % 2) (remainder (b / 2) * 2 + b % 2) 24)
-      ∙ sym (xor-block 1 (quotient (a / 2)) (quotient (b / 2)) ((remainder (a / 2) * 2 + a % 2) / 2 ^ 24)
-          ((remainder (b / 2) * 2 + b % 2) / 2 ^ 24)
-          (top-lt (remainder (a / 2) * 2 + a % 2) (next-remainder-lt a))
-          (top-lt (remainder (b / 2) * 2 + b % 2) (next-remainder-lt b)))
-      ∙ sym (ap₂ bitXor (quotient-step a) (quotient-step b)))
+    quotient-step (bitXor a b)
+    ∙ ap₂ (λ (q r : ℕ). q * 2 + (r * 2 + bitXor a b % 2) / 2 ^ 24)
+    (ap quotient (xor-half a b) ∙ ih (b / 2))
+    (ap remainder (xor-half a b) ∙ remainder-xor (a / 2) (b / 2))
+    ∙ ap (λ (v : ℕ). bitXor (quotient (a / 2)) (quotient (b / 2)) * 2 + v / 2 ^ 24)
+    (xor-next (remainder (a / 2)) (remainder (b / 2)) a b)
+    ∙ ap (λ (t : ℕ). bitXor (quotient (a / 2)) (quotient (b / 2)) * 2 + t)
+    (xor-shr (remainder (a / 2) * 2 + a % 2) (remainder (b / 2) * 2 + b % 2) 24)
+    ∙ sym (xor-block 1 (quotient (a / 2)) (quotient (b / 2)) ((remainder (a / 2) * 2 + a % 2) / 2 ^ 24)
+    ((remainder (b / 2) * 2 + b % 2) / 2 ^ 24)
+    (top-lt (remainder (a / 2) * 2 + a % 2) (next-remainder-lt a))
+    (top-lt (remainder (b / 2) * 2 + b % 2) (next-remainder-lt b)))
+    ∙ sym (ap₂ bitXor (quotient-step a) (quotient-step b)))
 
 -- ---- the product: one more coefficient, and what makes it a product
 
@@ -202,11 +202,11 @@ product-xor a b g =
     bin-ind (λ (a : ℕ). (b : ℕ) → product (bitXor a b) g ≡ bitXor (product a g) (product b g))
     (λ b. ap (λ (p : ℕ). bitXor p (product b g)) (sym (product-zero g)))
     (λ a ih b.
-      product-step (bitXor a b) g
-      ∙ ap₂ (λ (p l : ℕ). bitXor (p * 2) (l * g)) (ap (λ (n : ℕ). product n g) (xor-half a b) ∙ ih (b / 2)) (xor-mod a b 1)
-      ∙ ap₂ bitXor (xor-shl (product (a / 2) g) (product (b / 2) g) 1) (xor-bit-times (a % 2) (b % 2) g (mod-lt a two-pos) (mod-lt b two-pos))
-      ∙ xor-middle (product (a / 2) g * 2) (product (b / 2) g * 2) (a % 2 * g) (b % 2 * g)
-      ∙ sym (ap₂ bitXor (product-step a g) (product-step b g)))
+    product-step (bitXor a b) g
+    ∙ ap₂ (λ (p l : ℕ). bitXor (p * 2) (l * g)) (ap (λ (n : ℕ). product n g) (xor-half a b) ∙ ih (b / 2)) (xor-mod a b 1)
+    ∙ ap₂ bitXor (xor-shl (product (a / 2) g) (product (b / 2) g) 1) (xor-bit-times (a % 2) (b % 2) g (mod-lt a two-pos) (mod-lt b two-pos))
+    ∙ xor-middle (product (a / 2) g * 2) (product (b / 2) g * 2) (a % 2 * g) (b % 2 * g)
+    ∙ sym (ap₂ bitXor (product-step a g) (product-step b g)))
     a b
 
 -- ---- the division equation
@@ -223,7 +223,7 @@ division-equation =
     whole n q r hr eq er ih =
         ap₂ (λ (q r : ℕ). bitXor (product q generator) r) eq er
         ∙ ap (λ (p : ℕ). bitXor p (reduce (r * 2 + n % 2)))
-          (product-digit q ((r * 2 + n % 2) / 2 ^ 24) generator (top-lt (r * 2 + n % 2) (next-lt r n hr)))
+        (product-digit q ((r * 2 + n % 2) / 2 ^ 24) generator (top-lt (r * 2 + n % 2) (next-lt r n hr)))
         ∙ xor-common (product q generator * 2) ((r * 2 + n % 2) / 2 ^ 24 * generator) (r * 2 + n % 2)
         ∙ ap (λ (p : ℕ). bitXor p (r * 2 + n % 2)) (sym (add-zero (product q generator * 2)))
         ∙ xor-block 1 (product q generator) r 0 (n % 2) two-pos (mod-lt n two-pos)
@@ -255,18 +255,20 @@ multiple =
     bin-ind (λ (q : ℕ). (remainder (product q generator) ≡ 0) × (quotient (product q generator) ≡ q))
     (ap remainder (product-zero generator) ∙ remainder-zero, ap quotient (product-zero generator) ∙ quotient-zero)
     (λ q ih.
-      let p = product (q / 2) generator in
-      let b = bit-of-generator (q % 2) (mod-lt q two-pos) in
-      ( ap remainder (product-step q generator) ∙ remainder-xor (p * 2) (q % 2 * generator)
-        ∙ ap₂ bitXor (remainder-double p ∙ ap (λ (r : ℕ). reduce (r * 2)) (ih .0) ∙ reduce-small 0 (lit< tt)) (b .0)
-      , ap quotient (product-step q generator) ∙ quotient-xor (p * 2) (q % 2 * generator)
-        ∙ ap₂ bitXor (quotient-double p ∙ ap₂ (λ (h r : ℕ). h * 2 + r * 2 / 2 ^ 24) (ih .1) (ih .0)) (b .1)
-        ∙ ap (λ (n : ℕ). bitXor n (q % 2)) (add-zero (q / 2 * 2))
-        ∙ xor-shifted (q / 2) 1 (q % 2) (mod-lt q two-pos) ∙ div-add-mod' q 2))
+    let p = product (q / 2) generator in
+    let b = bit-of-generator (q % 2) (mod-lt q two-pos) in (
+      ap remainder (product-step q generator) ∙ remainder-xor (p * 2) (q % 2 * generator)
+          ∙ ap₂ bitXor (remainder-double p ∙ ap (λ (r : ℕ). reduce (r * 2)) (ih .0) ∙ reduce-small 0 (lit< tt)) (b .0),
+      ap quotient (product-step q generator) ∙ quotient-xor (p * 2) (q % 2 * generator)
+          ∙ ap₂ bitXor (quotient-double p ∙ ap₂ (λ (h r : ℕ). h * 2 + r * 2 / 2 ^ 24) (ih .1) (ih .0)) (b .1)
+          ∙ ap (λ (n : ℕ). bitXor n (q % 2)) (add-zero (q / 2 * 2))
+          ∙ xor-shifted (q / 2) 1 (q % 2) (mod-lt q two-pos) ∙ div-add-mod' q 2,
+    ))
 
 pub division-unique : (a q r : ℕ) → r < 2 ^ 24 → a ≡ bitXor (product q generator) r → (q ≡ quotient a) × (r ≡ remainder a)
-division-unique a q r h e =
-    ( sym
-      (ap quotient e ∙ quotient-xor (product q generator) r ∙ ap₂ bitXor (multiple q .1) (quotient-small r h) ∙ xor-zero-r q)
-    , sym
-      (ap remainder e ∙ remainder-xor (product q generator) r ∙ ap₂ bitXor (multiple q .0) (remainder-small r h)))
+division-unique a q r h e = (
+  sym
+      (ap quotient e ∙ quotient-xor (product q generator) r ∙ ap₂ bitXor (multiple q .1) (quotient-small r h) ∙ xor-zero-r q),
+  sym
+      (ap remainder e ∙ remainder-xor (product q generator) r ∙ ap₂ bitXor (multiple q .0) (remainder-small r h)),
+)

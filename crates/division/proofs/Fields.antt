@@ -45,8 +45,8 @@ bits-down b s e =
     (sym (bit-row (b / 2 ^ e % 2) (s + e) (mod-lt (b / 2 ^ e) (zero-lt-suc 1))))
     ∙ sym (parity-xor (b / 2 ^ suc e * 2 * 2 ^ (s + e)) (b / 2 ^ e % 2 * 2 ^ (s + e)))
     ∙ ap parity
-      (sym (xor-shl (b / 2 ^ suc e * 2) (b / 2 ^ e % 2) (s + e))
-      ∙ ap (λ (n : ℕ). n * 2 ^ (s + e)) (xor-shifted (b / 2 ^ suc e) 1 (b / 2 ^ e % 2) (mod-lt (b / 2 ^ e) (zero-lt-suc 1)) ∙ sym (next-bit b e)))
+    (sym (xor-shl (b / 2 ^ suc e * 2) (b / 2 ^ e % 2) (s + e))
+    ∙ ap (λ (n : ℕ). n * 2 ^ (s + e)) (xor-shifted (b / 2 ^ suc e) 1 (b / 2 ^ e % 2) (mod-lt (b / 2 ^ e) (zero-lt-suc 1)) ∙ sym (next-bit b e)))
 
 pub bits-more : (b s left row sum : ℕ) → 0 < left → row ≡ remainder (2 ^ (24 + (s + (left - 1)))) → sum ≡ parity (b / 2 ^ left * 2 ^ (s + left))
     → bitXor sum (b / 2 ^ (left - 1) % 2 * row) ≡ parity (b / 2 ^ (left - 1) * 2 ^ (s + (left - 1)))
@@ -54,7 +54,7 @@ bits-more b s zero row sum h r e = absurd (not-suc-le-zero h)
 bits-more b s (suc d) row sum h r e =
     ap₂ (λ (a c : ℕ). bitXor a (b / 2 ^ (suc d - 1) % 2 * c)) e r
     ∙ subst (λ (p : ℕ). bitXor (parity (b / 2 ^ suc d * 2 ^ (s + suc d))) (b / 2 ^ p % 2 * remainder (2 ^ (24 + (s + p)))) ≡ parity (b / 2 ^ p * 2 ^ (s + p)))
-      (sym less) (bits-down b s d)
+    (sym less) (bits-down b s d)
   where
     less : suc d - 1 ≡ d
     less = omega arith
@@ -78,8 +78,8 @@ rows-more f i sum added k e l h ke es ea =
     ap₂ bitXor (es ∙ ap parity (ap (λ (j : ℕ). number (take i f) * 2 ^ j) ke ∙ sym (shl-shl (number (take i f)) 8 e))) ea
     ∙ sym (parity-xor (number (take i f) * 2 ^ 8 * 2 ^ e) (getD f i 0 * 2 ^ e))
     ∙ ap parity
-      (sym (xor-shl (number (take i f) * 2 ^ 8) (getD f i 0) e)
-      ∙ ap (λ (n : ℕ). n * 2 ^ e) (xor-shifted (number (take i f)) 8 (getD f i 0) h ∙ sym (number-next f i l)))
+    (sym (xor-shl (number (take i f) * 2 ^ 8) (getD f i 0) e)
+    ∙ ap (λ (n : ℕ). n * 2 ^ e) (xor-shifted (number (take i f)) 8 (getD f i 0) h ∙ sym (number-next f i l)))
 
 pub rows-all : (f : List ℕ) (i sum : ℕ) → length f ≤ i → i ≤ length f → sum ≡ parity (number (take i f) * 2 ^ (8 * (length f - i))) → sum ≡ parity (number f)
 rows-all f i sum l g e =
@@ -108,8 +108,9 @@ table-way n (b ∷ f) h =
 
 pub three-ways : ThreeWays
 unfolding ThreeWays
-three-ways f h =
-    ( register-way (8 * length f) (number f) (number-lt f h)
-    , ap (λ (r : ℕ). tableWay r f) (sym parity-zero) ∙ table-way 0 f h
-      ∙ ap parity (ap (λ (n : ℕ). n + number f) (zero-mul (2 ^ (8 * length f))) ∙ zero-add (number f))
-    , sym (parity-by-rows (8 * length f) (number f) (number-lt f h)))
+three-ways f h = (
+  register-way (8 * length f) (number f) (number-lt f h),
+  ap (λ (r : ℕ). tableWay r f) (sym parity-zero) ∙ table-way 0 f h
+      ∙ ap parity (ap (λ (n : ℕ). n + number f) (zero-mul (2 ^ (8 * length f))) ∙ zero-add (number f)),
+  sym (parity-by-rows (8 * length f) (number f) (number-lt f h)),
+)

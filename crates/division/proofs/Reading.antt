@@ -65,12 +65,12 @@ unfolding addressRead
 addressRead-remainder u =
     ap (λ (n : ℕ). quotient (n * 2 ^ 24) % 2 ^ 24) (division-equation u)
     ∙ ap (λ (n : ℕ). quotient n % 2 ^ 24)
-      (xor-shl (product (quotient u) generator) (remainder u) 24
-      ∙ ap (λ (p : ℕ). bitXor p (remainder u * 2 ^ 24)) (sym (product-shl (quotient u) generator 24)))
+    (xor-shl (product (quotient u) generator) (remainder u) 24
+    ∙ ap (λ (p : ℕ). bitXor p (remainder u * 2 ^ 24)) (sym (product-shl (quotient u) generator 24)))
     ∙ ap (λ (n : ℕ). n % 2 ^ 24) (quotient-xor (product (quotient u * 2 ^ 24) generator) (remainder u * 2 ^ 24))
     ∙ xor-mod (quotient (product (quotient u * 2 ^ 24) generator)) (quotient (remainder u * 2 ^ 24)) 24
     ∙ ap (λ (n : ℕ). bitXor n (quotient (remainder u * 2 ^ 24) % 2 ^ 24))
-      (ap (λ (n : ℕ). n % 2 ^ 24) (multiple (quotient u * 2 ^ 24) .1) ∙ mul-mod-left (quotient u) (2 ^ 24))
+    (ap (λ (n : ℕ). n % 2 ^ 24) (multiple (quotient u * 2 ^ 24) .1) ∙ mul-mod-left (quotient u) (2 ^ 24))
 
 pub addressRead-lt : (u : ℕ) → addressRead u < 2 ^ 24
 unfolding addressRead
@@ -88,14 +88,17 @@ address-law u a h = (there, back)
   where
     q : ℕ
     q = quotient (u * 2 ^ 24)
+
     there : q % 2 ^ 24 ≡ a → ReadsAs u a
-    there e =
-        ( q / 2 ^ 24
-        , remainder (u * 2 ^ 24)
-        , remainder-lt (u * 2 ^ 24)
-        , division-equation (u * 2 ^ 24)
+    there e = (
+      q / 2 ^ 24,
+      remainder (u * 2 ^ 24),
+      remainder-lt (u * 2 ^ 24),
+      division-equation (u * 2 ^ 24)
           ∙ ap (λ (n : ℕ). bitXor (product n generator) (remainder (u * 2 ^ 24)))
-            (sym (split q 24) ∙ ap (λ (l : ℕ). q / 2 ^ 24 * 2 ^ 24 + l) e))
+          (sym (split q 24) ∙ ap (λ (l : ℕ). q / 2 ^ 24 * 2 ^ 24 + l) e),
+    )
+
     back : ReadsAs u a → q % 2 ^ 24 ≡ a
     back w =
         ap (λ (n : ℕ). n % 2 ^ 24) (sym (division-unique (u * 2 ^ 24) (w .0 * 2 ^ 24 + a) (w .1) (w .2) (w .3) .0))
@@ -121,11 +124,12 @@ read-overlay a h =
   where
     p : ℕ
     p = product a generator
+
     whole : p / 2 ^ 24 % 2 ^ 24 * 2 ^ 24 ≡ bitXor p (p % 2 ^ 24)
     whole =
         ap (λ (n : ℕ). n * 2 ^ 24) (shr-mod 24 24 (product-lt 24 a h))
         ∙ xor-move (p / 2 ^ 24 * 2 ^ 24) (p % 2 ^ 24) p
-          (xor-shifted (p / 2 ^ 24) 24 (p % 2 ^ 24) (mod-lt p (pow-pos 24)) ∙ split p 24)
+        (xor-shifted (p / 2 ^ 24) 24 (p % 2 ^ 24) (mod-lt p (pow-pos 24)) ∙ split p 24)
 
 pub overlay-lt : (a : ℕ) → overlay a < 2 ^ 24
 unfolding overlay
@@ -136,8 +140,8 @@ unfolding overlay
 overlay-read r h =
     ap (λ (n : ℕ). product n generator / 2 ^ 24 % 2 ^ 24) (addressRead-word r h)
     ∙ ap (λ (p : ℕ). p / 2 ^ 24 % 2 ^ 24)
-      (xor-move (product (quotient (r * 2 ^ 24)) generator) (remainder (r * 2 ^ 24)) (r * 2 ^ 24) (sym (division-equation (r * 2 ^ 24)))
-      ∙ xor-shifted r 24 (remainder (r * 2 ^ 24)) (remainder-lt (r * 2 ^ 24)))
+    (xor-move (product (quotient (r * 2 ^ 24)) generator) (remainder (r * 2 ^ 24)) (r * 2 ^ 24) (sym (division-equation (r * 2 ^ 24)))
+    ∙ xor-shifted r 24 (remainder (r * 2 ^ 24)) (remainder-lt (r * 2 ^ 24)))
     ∙ ap (λ (n : ℕ). n % 2 ^ 24) (high r 24 (remainder-lt (r * 2 ^ 24)))
     ∙ mod-eq-of-lt h
 

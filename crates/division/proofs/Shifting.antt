@@ -52,11 +52,11 @@ shiftIn-more j k r b c h =
     ∙ ap (λ (n : ℕ). bitXor n (remainder (c * 2 ^ 24))) (sym (remainder-shl before k))
     ∙ sym (remainder-xor (before * 2 ^ k) (c * 2 ^ 24))
     ∙ ap remainder
-      (ap (λ (n : ℕ). bitXor n (c * 2 ^ 24))
-        (xor-shl (r * 2 ^ j) (b * 2 ^ 24) k ∙ ap₂ bitXor (shl-shl r j k) (shl-comm b 24 k))
-      ∙ xor-assoc (r * 2 ^ (j + k)) (b * 2 ^ k * 2 ^ 24) (c * 2 ^ 24)
-      ∙ ap (bitXor (r * 2 ^ (j + k)))
-        (sym (xor-shl (b * 2 ^ k) c 24) ∙ ap (λ (n : ℕ). n * 2 ^ 24) (xor-shifted b k c h)))
+    (ap (λ (n : ℕ). bitXor n (c * 2 ^ 24))
+    (xor-shl (r * 2 ^ j) (b * 2 ^ 24) k ∙ ap₂ bitXor (shl-shl r j k) (shl-comm b 24 k))
+    ∙ xor-assoc (r * 2 ^ (j + k)) (b * 2 ^ k * 2 ^ 24) (c * 2 ^ 24)
+    ∙ ap (bitXor (r * 2 ^ (j + k)))
+    (sym (xor-shl (b * 2 ^ k) c 24) ∙ ap (λ (n : ℕ). n * 2 ^ 24) (xor-shifted b k c h)))
   where
     before : ℕ
     before = bitXor (r * 2 ^ j) (b * 2 ^ 24)
@@ -172,10 +172,13 @@ backward-double a =
   where
     r : ℕ
     r = remainder a
+
     t : ℕ
     t = r * 2 / 2 ^ 24
+
     t-lt : t < 2
     t-lt = div-lt-iff-lt-mul (lit< tt) .1 (omega (arith, remainder-lt a))
+
     low : reduce (r * 2) % 2 ≡ t
     low = xor-mod (r * 2) (t * generator) 1 ∙ ap₂ bitXor (mul-mod-left r 2) (odd-generator t t-lt)
 
@@ -191,6 +194,7 @@ backward-is r h =
   where
     low : bitXor r (r % 2 * generator) % 2 ≡ 0
     low = xor-mod r (r % 2 * generator) 1 ∙ ap (bitXor (r % 2)) (odd-generator (r % 2) (mod-lt r two-pos)) ∙ xor-self (r % 2)
+
     none : remainder (r % 2 * generator) ≡ 0
     none =
         ap remainder (sym (product-digit 0 (r % 2) generator (mod-lt r two-pos) ∙ ap (λ (p : ℕ). bitXor (p * 2) (r % 2 * generator)) (product-zero generator)))
@@ -234,9 +238,9 @@ shiftIn-byte r b hr hb =
     ap (λ (n : ℕ). bitXor n (remainder (bitXor (r / 65536) b * 2 ^ 24))) (sym (remainder-small (r % 65536 * 256) (omega arith)))
     ∙ sym (remainder-xor (r % 65536 * 256) (bitXor (r / 65536) b * 2 ^ 24))
     ∙ ap remainder
-      (ap (bitXor (r % 65536 * 256)) (xor-shl (r / 65536) b 24)
-      ∙ sym (xor-assoc (r % 65536 * 256) (r / 65536 * 2 ^ 24) (b * 2 ^ 24))
-      ∙ ap (λ (n : ℕ). bitXor n (b * 2 ^ 24))
-        (xor-comm (r % 65536 * 256) (r / 65536 * 2 ^ 24)
-        ∙ xor-shifted (r / 65536) 24 (r % 65536 * 256) (omega arith)
-        ∙ whole))
+    (ap (bitXor (r % 65536 * 256)) (xor-shl (r / 65536) b 24)
+    ∙ sym (xor-assoc (r % 65536 * 256) (r / 65536 * 2 ^ 24) (b * 2 ^ 24))
+    ∙ ap (λ (n : ℕ). bitXor n (b * 2 ^ 24))
+    (xor-comm (r % 65536 * 256) (r / 65536 * 2 ^ 24)
+    ∙ xor-shifted (r / 65536) 24 (r % 65536 * 256) (omega arith)
+    ∙ whole))

@@ -40,12 +40,12 @@ pub xor-assoc : (a b c : ℕ) → bitXor (bitXor a b) c ≡ bitXor a (bitXor b c
 xor-assoc =
     bin-ind (λ (a : ℕ). (b c : ℕ) → bitXor (bitXor a b) c ≡ bitXor a (bitXor b c)) (λ b c. refl)
     (λ a ih b c.
-      xor-step (bitXor a b) c
-      ∙ ap₂ (λ (h l : ℕ). bitXor h (c / 2) * 2 + differ l (c % 2)) (xor-half a b) (xor-low a b)
-      ∙ ap₂ (λ (h l : ℕ). h * 2 + l) (ih (b / 2) (c / 2))
-        (differ-assoc (a % 2) (b % 2) (c % 2) (mod-lt a two-pos) (mod-lt b two-pos) (mod-lt c two-pos))
-      ∙ ap₂ (λ (h l : ℕ). bitXor (a / 2) h * 2 + differ (a % 2) l) (sym (xor-half b c)) (sym (xor-low b c))
-      ∙ sym (xor-step a (bitXor b c)))
+    xor-step (bitXor a b) c
+    ∙ ap₂ (λ (h l : ℕ). bitXor h (c / 2) * 2 + differ l (c % 2)) (xor-half a b) (xor-low a b)
+    ∙ ap₂ (λ (h l : ℕ). h * 2 + l) (ih (b / 2) (c / 2))
+    (differ-assoc (a % 2) (b % 2) (c % 2) (mod-lt a two-pos) (mod-lt b two-pos) (mod-lt c two-pos))
+    ∙ ap₂ (λ (h l : ℕ). bitXor (a / 2) h * 2 + differ (a % 2) l) (sym (xor-half b c)) (sym (xor-low b c))
+    ∙ sym (xor-step a (bitXor b c)))
 
 pub xor-cancel : (a b : ℕ) → bitXor a (bitXor a b) ≡ b
 xor-cancel a b = sym (xor-assoc a a b) ∙ ap (λ (n : ℕ). bitXor n b) (xor-self a)

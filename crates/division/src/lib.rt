@@ -22,8 +22,8 @@ pub use message::format_number;
 pub use message::message_remainder;
 pub use overlay::uplink_overlay;
 pub use register::parity_by_register;
-pub use register::register_step;
 pub use register::register_back;
+pub use register::register_step;
 pub use row_table::parity_by_rows;
 
 // A 24-bit word, or the number of the refusal.

@@ -16,7 +16,11 @@ pub fn first_bit_agrees(m: &[u8]) -> bool
     ensures { λ r. ⌜ r ≡ firstBitAgrees (now (m .entry)) ⌝ }
 {
     let first = first_byte(m) / 128;
-    if m.len() == 14 { first == 1 } else { first == 0 }
+    if m.len() == 14 {
+        first == 1
+    } else {
+        first == 0
+    }
 }
 
 // The format number, bits 1 to 5; of no bytes, 0.

@@ -46,10 +46,11 @@ part-write-word-end c = search needs
 write-word-requires : tie.Need-write-word-requires
 write-word-requires c κs =
     let m : List ℕ = c .before .before .before .before .args .m .now in
-    let ge = message-length-ge (length m) (c .before .before .before .before .pre .0) in
-    ( ap length (part-from (length m - 3) m) ∙ length-drop (length m - 3) m ∙ omega arith
-    , xor-lt 24 (c .before .field-parity .result) _
-      (subst (λ (r : ℕ). r < 2 ^ 24) (sym (c .before .field-parity .ensures)) (parity-lt _)) (c .before .before .before .before .pre .1))
+    let ge = message-length-ge (length m) (c .before .before .before .before .pre .0) in (
+      ap length (part-from (length m - 3) m) ∙ length-drop (length m - 3) m ∙ omega arith,
+      xor-lt 24 (c .before .field-parity .result) _
+          (subst (λ (r : ℕ). r < 2 ^ 24) (sym (c .before .field-parity .ensures)) (parity-lt _)) (c .before .before .before .before .pre .1),
+    )
 
 same-length : tie.Need-same-length
 same-length c = search needs

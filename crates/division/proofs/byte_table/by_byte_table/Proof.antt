@@ -35,11 +35,12 @@ loop-less : tie.Need-loop-less Inv-loop μ-loop
 loop-less c = omega arith
 
 loop-again : tie.Need-loop-again Inv-loop μ-loop
-loop-again c =
-    ( omega arith
-    , passed-more (c .before .before .before .before .before .args .field .now) (c .before .before .before .loop .i) _ _
+loop-again c = (
+  omega arith,
+  passed-more (c .before .before .before .before .before .args .field .now) (c .before .before .before .loop .i) _ _
       (c .before .before .loop-test .taken) (omega (arith, c .before .shared-slice-known2 .given (c .before .before .before .loop .i)))
-      (c .before .before .before .loop .inv .1) (c .shift-byte-by-table .ensures))
+      (c .before .before .before .loop .inv .1) (c .shift-byte-by-table .ensures),
+)
 
 returns : tie.Need-returns Inv-loop μ-loop
 returns c = passed-all _ (c .before .loop .i) _ (c .loop-test .left) (c .before .loop .inv .1)

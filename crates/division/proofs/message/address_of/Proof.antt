@@ -18,10 +18,11 @@ abbrev μ-loop : tie.MeasureT-loop
 μ-loop r q₀ s₀ done₀ q s done = 24 - done
 
 loop-holds : tie.Need-loop-holds Inv-loop μ-loop
-loop-holds c =
-    ( omega arith
-    , sym (ap quotient (mul-one (c .args .r)) ∙ quotient-small (c .args .r) (c .pre))
-    , sym (ap remainder (mul-one (c .args .r)) ∙ remainder-small (c .args .r) (c .pre)))
+loop-holds c = (
+  omega arith,
+  sym (ap quotient (mul-one (c .args .r)) ∙ quotient-small (c .args .r) (c .pre)),
+  sym (ap remainder (mul-one (c .args .r)) ∙ remainder-small (c .args .r) (c .pre)),
+)
 
 quotient-lt : (c : tie.In-loop Inv-loop μ-loop) → c .before .loop .quotient < 2 ^ 24
 quotient-lt c =
@@ -49,10 +50,11 @@ loop-less c = omega arith
 loop-again : tie.Need-loop-again Inv-loop μ-loop
 loop-again c =
     let r = c .before .before .before .args .r in
-    let l = c .before .before .loop in
-    ( omega arith
-    , ap₂ (λ (q s : ℕ). q * 2 + s / 0x800000) (l .inv .1) (l .inv .2) ∙ sym (quotient-next r (l .done))
-    , c .shift-bit .ensures ∙ ap (λ (s : ℕ). shiftIn 1 s 0) (l .inv .2) ∙ sym (remainder-next r (l .done)))
+    let l = c .before .before .loop in (
+      omega arith,
+      ap₂ (λ (q s : ℕ). q * 2 + s / 0x800000) (l .inv .1) (l .inv .2) ∙ sym (quotient-next r (l .done)),
+      c .shift-bit .ensures ∙ ap (λ (s : ℕ). shiftIn 1 s 0) (l .inv .2) ∙ sym (remainder-next r (l .done)),
+    )
 
 returns : tie.Need-returns Inv-loop μ-loop
 returns c =

@@ -22,9 +22,10 @@ bit-lt true = lit< tt
 bit-lt false = lit< tt
 
 shift-bit-requires : tie.Need-shift-bit-requires
-shift-bit-requires c κs =
-    ( word-lt _ (sym (c .before .before .is-word .ensures) ∙ c .before .if1 .taken)
-    , subst (λ (b : ℕ). b < 2) (sym (c .one-if .ensures)) (bit-lt (c .before .before .before .args .bit)))
+shift-bit-requires c κs = (
+  word-lt _ (sym (c .before .before .is-word .ensures) ∙ c .before .if1 .taken),
+  subst (λ (b : ℕ). b < 2) (sym (c .one-if .ensures)) (bit-lt (c .before .before .before .args .bit)),
+)
 
 returns : tie.Need-returns
 unfolding registerAnswer

@@ -19,10 +19,11 @@ wide-requires : tie.Need-wide-requires Inv-loop μ-loop
 wide-requires c κs = search needs
 
 loop-holds : tie.Need-loop-holds Inv-loop μ-loop
-loop-holds c =
-    ( omega arith
-    , c .before .pre
-    , shiftIn-start 8 (c .before .args .r) (c .wide .result) (c .before .pre) (omega arith))
+loop-holds c = (
+  omega arith,
+  c .before .pre,
+  shiftIn-start 8 (c .before .args .r) (c .wide .result) (c .before .pre) (omega arith),
+)
 
 sub-left : tie.Need-sub-left Inv-loop μ-loop
 sub-left c = omega arith
@@ -37,11 +38,12 @@ loop-less : tie.Need-loop-less Inv-loop μ-loop
 loop-less c = omega arith
 
 loop-again : tie.Need-loop-again Inv-loop μ-loop
-loop-again c =
-    ( omega arith
-    , subst (λ (s : ℕ). s < 2 ^ 24) (sym (c .shift-bit .ensures)) (shiftIn-lt 1 _ _)
-    , c .shift-bit .ensures ∙ ap (λ (s : ℕ). shiftIn 1 s (c .before .before .before .wide .result / 2 ^ (c .before .before .loop .left - 1) % 2)) (c .before .before .loop .inv .2)
-      ∙ shiftIn-down 8 (c .before .before .loop .left) _ _ (c .before .loop-test .taken) (c .before .before .loop .inv .0))
+loop-again c = (
+  omega arith,
+  subst (λ (s : ℕ). s < 2 ^ 24) (sym (c .shift-bit .ensures)) (shiftIn-lt 1 _ _),
+  c .shift-bit .ensures ∙ ap (λ (s : ℕ). shiftIn 1 s (c .before .before .before .wide .result / 2 ^ (c .before .before .loop .left - 1) % 2)) (c .before .before .loop .inv .2)
+      ∙ shiftIn-down 8 (c .before .before .loop .left) _ _ (c .before .loop-test .taken) (c .before .before .loop .inv .0),
+)
 
 returns : tie.Need-returns Inv-loop μ-loop
 returns c =

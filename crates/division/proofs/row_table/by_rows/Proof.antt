@@ -49,11 +49,12 @@ loop-again c =
     let f = c .before .before .before .before .before .args .field .now in
     let i = c .before .before .before .loop .i in
     let before : 8 * (length f - i) ≡ 8 + 8 * (length f - (i + 1)) = omega arith in
-    let place : 80 - (88 - 8 * length f + 8 * i) ≡ 8 * (length f - (i + 1)) = omega arith in
-    ( omega arith
-    , rows-more f i _ _ _ (8 * (length f - (i + 1))) (c .before .before .loop-test .taken)
-      (omega (arith, c .before .shared-slice-known2 .given i)) before (c .before .before .before .loop .inv .1)
-      (c .rows-of-byte .ensures ∙ ap (λ (k : ℕ). parity (getD f i 0 * 2 ^ k)) place))
+    let place : 80 - (88 - 8 * length f + 8 * i) ≡ 8 * (length f - (i + 1)) = omega arith in (
+      omega arith,
+      rows-more f i _ _ _ (8 * (length f - (i + 1))) (c .before .before .loop-test .taken)
+          (omega (arith, c .before .shared-slice-known2 .given i)) before (c .before .before .before .loop .inv .1)
+          (c .rows-of-byte .ensures ∙ ap (λ (k : ℕ). parity (getD f i 0 * 2 ^ k)) place),
+    )
 
 returns : tie.Need-returns Inv-loop μ-loop
 returns c =

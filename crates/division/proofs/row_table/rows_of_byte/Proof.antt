@@ -57,12 +57,13 @@ unfolding IsRowTable
 loop-again c =
     let a = c .before .before .before .before .args .at in
     let l = c .before .before .loop in
-    let place : 111 - l .row ≡ 24 + (80 - a + (l .left - 1)) = omega arith in
-    ( omega arith
-    , omega arith
-    , bits-more (c .before .before .before .wide .result) (80 - a) (l .left) _ _ (c .before .loop-test .taken)
-      (c .before .before .before .before .pre .0 (l .row) (omega arith) ∙ ap (λ (n : ℕ). remainder (2 ^ n)) place)
-      (l .inv .2))
+    let place : 111 - l .row ≡ 24 + (80 - a + (l .left - 1)) = omega arith in (
+      omega arith,
+      omega arith,
+      bits-more (c .before .before .before .wide .result) (80 - a) (l .left) _ _ (c .before .loop-test .taken)
+          (c .before .before .before .before .pre .0 (l .row) (omega arith) ∙ ap (λ (n : ℕ). remainder (2 ^ n)) place)
+          (l .inv .2),
+    )
 
 returns : tie.Need-returns Inv-loop μ-loop
 returns c =

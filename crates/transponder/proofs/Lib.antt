@@ -1,0 +1,2 @@
+-- The laws of the transponder.
+pub mod Receiving
