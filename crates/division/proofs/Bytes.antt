@@ -17,7 +17,11 @@ pub number-nil : number [] ≡ 0
 unfolding number
 number-nil = refl
 
-number-one : (b : ℕ) → number (b ∷ []) ≡ b
+pub number-cons : (b : ℕ) (bs : List ℕ) → number (b ∷ bs) ≡ b * 2 ^ (8 * length bs) + number bs
+unfolding number
+number-cons b bs = refl
+
+pub number-one : (b : ℕ) → number (b ∷ []) ≡ b
 unfolding number
 number-one b = add-zero (b * 1) ∙ mul-one b
 
@@ -105,28 +109,24 @@ next-bit b e =
 -- ---- bytes
 
 pub bytes-tail : (x : ℕ) (l : List ℕ) → Bytes (x ∷ l) → Bytes l
-unfolding Bytes
 bytes-tail x l h i = h (suc i)
 
 pub bytes-drop : (n : ℕ) (l : List ℕ) → Bytes l → Bytes (drop n l)
-unfolding Bytes
 bytes-drop n l h i = subst (λ (b : ℕ). b < 2 ^ 8) (sym (getD-drop n l i 0)) (h (n + i))
 
 pub bytes-take : (n : ℕ) (l : List ℕ) → Bytes l → Bytes (take n l)
-unfolding Bytes
 bytes-take zero l h i = lit< tt
 bytes-take (suc n) [] h i = lit< tt
 bytes-take (suc n) (x ∷ l) h zero = h zero
 bytes-take (suc n) (x ∷ l) h (suc i) = bytes-take n l (λ j. h (suc j)) i
 
 pub bytes-append : (k l : List ℕ) → Bytes k → Bytes l → Bytes (k ++ l)
-unfolding Bytes
 bytes-append [] l hk hl i = hl i
 bytes-append (x ∷ k) l hk hl zero = hk zero
 bytes-append (x ∷ k) l hk hl (suc i) = bytes-append k l (λ j. hk (suc j)) hl i
 
 pub number-lt : (l : List ℕ) → Bytes l → number l < 2 ^ (8 * length l)
-unfolding number Bytes
+unfolding number
 number-lt [] h = lit< tt
 number-lt (x ∷ l) h =
     subst (λ (b : ℕ). x * 2 ^ (8 * length l) + number l < b) (byte-more (length l))

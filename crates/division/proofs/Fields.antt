@@ -98,7 +98,7 @@ register-way (suc k) m h =
     ∙ ap parity (div-add-mod' m 2)
 
 table-way : (n : ℕ) (f : List ℕ) → Bytes f → tableWay (parity n) f ≡ parity (n * 2 ^ (8 * length f) + number f)
-unfolding tableWay tableStep number Bytes
+unfolding tableWay tableStep number
 table-way n [] h = ap parity (sym (add-zero (n * 1) ∙ mul-one n))
 table-way n (b ∷ f) h =
     ap (λ (r : ℕ). tableWay r f)

@@ -12,7 +12,7 @@ number [] = 0
 number (b ∷ bs) = b * 2 ^ (8 * length bs) + number bs
 
 -- The entries are bytes.
-unfoldable pub Bytes : List ℕ → Type 0
+abbrev pub Bytes : List ℕ → Type 0
 Bytes bs = (i : ℕ) → getD bs i 0 < 2 ^ 8
 
 -- The last 24 bits of a message are the parity field (Annex 10 Volume IV: AP), the bytes before it the field M.

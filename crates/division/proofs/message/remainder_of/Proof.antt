@@ -37,7 +37,7 @@ three-bytes-requires : tie.Need-three-bytes-requires
 three-bytes-requires c κs = search needs
 
 returns : tie.Need-returns
-unfolding field parityField Bytes
+unfolding field parityField
 returns c =
     let m : List ℕ = c .before .before .before .before .before .args .m .now in
     let p : c .before .before .field-parity .result ≡ parity (number (take (length m - 3) m)) = c .before .before .field-parity .ensures in

@@ -1,0 +1,3 @@
+-- The laws of the sensor.
+pub mod Marks
+pub mod Bits
