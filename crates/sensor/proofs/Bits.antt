@@ -78,6 +78,7 @@ inverted-part a m d hm ha h =
   where
     shorter : 8 * length (drop a m) ≤ 8 * length m
     shorter = omega (arith, length-drop a m)
+
     same : length (take a m ++ inverted (drop a m) d) ≡ length m
     same =
         length-append (take a m) (inverted (drop a m) d) ∙ ap (λ (n : ℕ). length (take a m) + n) (inverted-length (drop a m) d)
@@ -159,7 +160,7 @@ window-three p offset x l o =
     let place : 8 * length p - 24 - offset ≡ 0 = omega arith in
     let n : ℕ = bitXor (fourBytes p) (x * 2 ^ (8 - offset)) in
     let whole : n ≡ bitXor (number p) x * 256 =
-        ap₂ bitXor (four-of-three p l) (ap (λ (k : ℕ). x * 2 ^ (8 - k)) o) ∙ sym (xor-shl (number p) x 8) in
+    ap₂ bitXor (four-of-three p l) (ap (λ (k : ℕ). x * 2 ^ (8 - k)) o) ∙ sym (xor-shl (number p) x 8) in
     let bytes : number (stored p n) ≡ number (n / 16777216 ∷ n / 65536 % 256 ∷ n / 256 % 256 ∷ []) = ap number (stored-three p n l) in
     let even : n % 256 ≡ 0 = omega arith in
     let times = three n even in
@@ -177,8 +178,8 @@ window-more p offset x hp o l =
     ∙ ap (λ (n : ℕ). bitXor (fourBytes p) (x * 2 ^ (8 - offset)) * 2 ^ k + n) (sym (xor-zero-r (number r)))
     ∙ sym (xor-block k (fourBytes p) (x * 2 ^ (8 - offset)) (number r) 0 (number-lt r (bytes-drop 4 p hp)) (pow-pos k))
     ∙ ap₂ bitXor
-      (ap (λ (t : ℕ). t * 2 ^ k + number r) (sym (take-four p l)) ∙ sym (number-split 4 p))
-      (add-zero (x * 2 ^ (8 - offset) * 2 ^ k) ∙ shl-shl x (8 - offset) k ∙ ap (λ (e : ℕ). x * 2 ^ e) place)
+    (ap (λ (t : ℕ). t * 2 ^ k + number r) (sym (take-four p l)) ∙ sym (number-split 4 p))
+    (add-zero (x * 2 ^ (8 - offset) * 2 ^ k) ∙ shl-shl x (8 - offset) k ∙ ap (λ (e : ℕ). x * 2 ^ e) place)
 
 pub window-inverted : (p : List ℕ) (offset x : ℕ) → Bytes p → Starts p offset → x < 2 ^ 24
     → stored p (bitXor (fourBytes p) (x * 2 ^ (8 - offset))) ≡ inverted p (x * 2 ^ (8 * length p - 24 - offset))
@@ -189,6 +190,7 @@ window-inverted p offset x hp s hx =
   where
     n : ℕ
     n = bitXor (fourBytes p) (x * 2 ^ (8 - offset))
+
     by : (length p ≡ 3) ⊎ (4 ≤ length p) → number (stored p n) ≡ bitXor (number p) (x * 2 ^ (8 * length p - 24 - offset))
     by (inl e) = window-three p offset x e (omega arith)
     by (inr l) = window-more p offset x hp (s .0) l
@@ -208,4 +210,4 @@ placed-back m e x ys hm h g hx w =
     ∙ ap (λ (p : List ℕ). take a m ++ inverted p (x * 2 ^ (8 * length p - 24 - windowAt m e % 8))) (part-from a m)
     ∙ ap (λ (k : ℕ). take a m ++ inverted (drop a m) (x * 2 ^ k)) place
     ∙ inverted-part a m (x * 2 ^ e) hm within
-      (lt-of-lt-of-le (shl-lt 24 e hx) (pow-mono {i = 24 + e} {j = 8 * length (drop a m)} (omega arith)))
+    (lt-of-lt-of-le (shl-lt 24 e hx) (pow-mono {i = 24 + e} {j = 8 * length (drop a m)} (omega arith)))

@@ -1,3 +1,4 @@
 -- The laws of the sensor.
 pub mod Marks
 pub mod Bits
+pub mod Fits

@@ -90,7 +90,7 @@ above : (x y e k : ℕ) → (x * 2 ^ (k + (24 + e)) + y) / 2 ^ e % 2 ^ 24 ≡ y 
 above x y e k =
     sym (cut (x * 2 ^ (k + (24 + e)) + y) 24 e)
     ∙ ap (λ (n : ℕ). n / 2 ^ e)
-      (ap (λ (n : ℕ). (n + y) % 2 ^ (24 + e)) (sym (shl-shl x k (24 + e))) ∙ mul-add-mod-self-right (x * 2 ^ k) (2 ^ (24 + e)) y)
+    (ap (λ (n : ℕ). (n + y) % 2 ^ (24 + e)) (sym (shl-shl x k (24 + e))) ∙ mul-add-mod-self-right (x * 2 ^ k) (2 ^ (24 + e)) y)
     ∙ cut y 24 e
 
 pub marks-at : (c : List ℕ) (e : ℕ) → 3 ≤ length c → e ≤ 8 * length c - 24 → windowMarks (drop (windowAt c e / 8) c) (windowAt c e % 8) ≡ marksAt c e
@@ -103,4 +103,4 @@ marks-at c e h g =
     ap (λ (p : ℕ). number (drop a c) / 2 ^ p % 2 ^ 24) (window-place c e h g)
     ∙ sym (above (number (take a c)) (number (drop a c)) e k)
     ∙ ap (λ (n : ℕ). n / 2 ^ e % 2 ^ 24)
-      (ap (λ (p : ℕ). number (take a c) * 2 ^ p + number (drop a c)) (sym room) ∙ sym (number-split a c))
+    (ap (λ (p : ℕ). number (take a c) * 2 ^ p + number (drop a c)) (sym room) ∙ sym (number-split a c))

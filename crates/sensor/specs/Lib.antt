@@ -2,3 +2,4 @@
 pub mod Changes
 pub mod Windows
 pub mod Verdicts
+pub mod Searching

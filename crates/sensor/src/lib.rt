@@ -3,6 +3,7 @@ ghost use mathlib.Core.Path.{_≡_};
 ghost use Rattle.sensor.specs.Verdicts.{said, sensorOutcome, sensorAfter};
 
 mod inverting;
+mod search;
 mod windows;
 
 // Whether the correction applied was the only one possible.

@@ -39,10 +39,11 @@ part-invert-window-end c = search needs
 invert-window-requires : tie.Need-invert-window-requires
 invert-window-requires c κs =
     let m : List ℕ = c .before .before .args .m .now in
-    let e : ℕ = c .before .before .args .place in
-    ( subst (λ (p : List ℕ). Starts p (windowAt m e % 8)) (sym (part-from (windowAt m e / 8) m))
-      (window-starts m e (c .before .before .pre .0 .0) (c .before .before .pre .1 .0))
-    , c .before .before .pre .1 .1)
+    let e : ℕ = c .before .before .args .place in (
+      subst (λ (p : List ℕ). Starts p (windowAt m e % 8)) (sym (part-from (windowAt m e / 8) m))
+          (window-starts m e (c .before .before .pre .0 .0) (c .before .before .pre .1 .0)),
+      c .before .before .pre .1 .1,
+    )
 
 same-length : tie.Need-same-length
 same-length c = search needs

@@ -1,0 +1,297 @@
+-- The search. In the window at place e the only pattern that can make the message carry the word is the candidate: its
+-- remainder there is the syndrome (`candidate-law`). And the state that the code keeps while it visits the places one
+-- after the other says which of them fit, and whether they invert the same message bits (`search-seen`).
+use mathlib.Core.Path.{_≡_, refl, sym, ap, ap₂, _∙_, subst}
+use mathlib.Core.Logic.{_⊎_, inl, inr}
+use mathlib.Core.Bool.{Bool, true, false, not}
+use mathlib.Core.List.{List, [], _∷_}
+use Prim.Native.Nat.{ℕ, zero, suc, _+_, _-_, _*_, _/_, _%_, _^_, _<_, _≤_}
+use native.Mathlib.Nat.{mul-one, zero-mul, eq-or-lt-of-le, le-of-suc-le-suc, not-suc-le-zero, zero-lt-suc, lt-trans, le-refl, lt-irrefl, lt-of-lt-of-le, le-suc, le-trans, le-of-eq, one-mul, mul-le-mul-right}
+use native.Mathlib.Numerals.{add-one}
+use native.Mathlib.Omega.{arith}
+use lib.Bits.{bitAnd}
+use lib.Pow.{pow-mono, shl-shr}
+use lib.Dec.{eqb, lit<}
+use borrow.Author.Tests.{eqb-true, eqb-false, eq-eqb, ne-eqb}
+use Rattle.division.specs.Division.{remainder, backward}
+use Rattle.division.proofs.Laws.{remainder-zero, remainder-small, remainder-shl, backward-is, backward-lt, shl-suc, shl-shl, shl-comm}
+use Rattle.sensor.specs.Changes.{marksAt}
+use Rattle.sensor.specs.Verdicts.{Found, firstOf, highest, candidate, changeAt, fitsAt, differsAt, both}
+use Rattle.sensor.specs.Verdicts.Found.{nowhere, at}
+use Rattle.sensor.specs.Searching.{Sound, pickNumber, counted, noted, kept, visited, searchTo}
+use Rattle.sensor.specs.declared.search.Search.{Search}
+
+-- ---- the candidate
+
+pub candidate-lt : (s e : ℕ) → s < 2 ^ 24 → candidate s e < 2 ^ 24
+unfolding candidate
+candidate-lt s zero h = h
+candidate-lt s (suc e) h = backward-lt (candidate s e) (candidate-lt s e h)
+
+pub candidate-law : (s e : ℕ) → s < 2 ^ 24 → remainder (candidate s e * 2 ^ e) ≡ s
+unfolding candidate
+candidate-law s zero h = ap remainder (mul-one s) ∙ remainder-small s h
+candidate-law s (suc e) h =
+    ap remainder (shl-suc (backward (candidate s e)) e ∙ shl-comm (backward (candidate s e)) e 1)
+    ∙ remainder-shl (backward (candidate s e) * 2) e
+    ∙ ap (λ (r : ℕ). remainder (r * 2 ^ e)) (backward-is (candidate s e) (candidate-lt s e h))
+    ∙ candidate-law s e h
+
+pub candidate-pos : (s e : ℕ) → 0 < s → s < 2 ^ 24 → 0 < candidate s e
+candidate-pos s e p h = positive (candidate s e) (λ z. lt-irrefl 0 (subst (λ (n : ℕ). 0 < n) (none z) p))
+  where
+    none : candidate s e ≡ 0 → s ≡ 0
+    none z = sym (candidate-law s e h) ∙ ap (λ (n : ℕ). remainder (n * 2 ^ e)) z ∙ ap remainder (zero-mul (2 ^ e)) ∙ remainder-zero
+
+    positive : (n : ℕ) → (n ≡ 0 → ⊥) → 0 < n
+    positive zero q = absurd (q refl)
+    positive (suc n) q = zero-lt-suc n
+
+-- ---- the highest place that passes a test
+
+never : {t : Bool} → t ≡ true → t ≡ false → ⊥
+never a b = let z : _≡_ {A = ℕ} 0 1 = cc in omega arith
+
+below-suc : (e k : ℕ) → e < suc k → (e ≡ k) ⊎ (e < k)
+below-suc e k h = eq-or-lt-of-le (le-of-suc-le-suc h)
+
+pub highest-start : (t : ℕ → Bool) → nowhere ≡ highest t 0
+unfolding highest
+highest-start t = refl
+
+pub highest-next : (t : ℕ → Bool) (k : ℕ) → highest t (k + 1) ≡ firstOf (t k) k (highest t k)
+unfolding highest
+highest-next t k = ap (highest t) (add-one k)
+
+pub highest-none : (t : ℕ → Bool) (k : ℕ) → ((e : ℕ) → e < k → t e ≡ false) → highest t k ≡ nowhere
+unfolding highest
+highest-none t zero h = refl
+highest-none t (suc k) h =
+    ap (λ (b : Bool). firstOf b k (highest t k)) (h k (le-refl (suc k)))
+    ∙ highest-none t k (λ e l. h e (lt-trans l (le-refl (suc k))))
+
+pub highest-at : (t : ℕ → Bool) (k e : ℕ) → e < k → t e ≡ true → ((i : ℕ) → e < i → i < k → t i ≡ false) → highest t k ≡ at e
+unfolding highest
+highest-at t zero e l p h = absurd (not-suc-le-zero l)
+highest-at t (suc k) e l p h = by (below-suc e k l) (λ q. highest-at t k e q p (λ i a b. h i a (lt-trans b (le-refl (suc k)))))
+  where
+    by : (e ≡ k) ⊎ (e < k) → (e < k → highest t k ≡ at e) → firstOf (t k) k (highest t k) ≡ at e
+    by (inl q) lower = ap (λ (b : Bool). firstOf b k (highest t k)) (ap t (sym q) ∙ p) ∙ ap at (sym q)
+    by (inr q) lower = ap (λ (b : Bool). firstOf b k (highest t k)) (h k q (le-refl (suc k))) ∙ lower q
+
+-- some place passes, so one is highest
+pub highest-some : (t : ℕ → Bool) (k e : ℕ) → e < k → t e ≡ true → (i : ℕ) × (highest t k ≡ at i)
+unfolding highest
+highest-some t zero e l p = absurd (not-suc-le-zero l)
+highest-some t (suc k) e l p = by (t k) refl (below-suc e k l) (λ r. highest-some t k e r p)
+  where
+    by : (b : Bool) → t k ≡ b → (e ≡ k) ⊎ (e < k) → (e < k → (i : ℕ) × (highest t k ≡ at i)) → (i : ℕ) × (firstOf (t k) k (highest t k) ≡ at i)
+    by true q d lower = (k, ap (λ (b : Bool). firstOf b k (highest t k)) q)
+    by false q (inl r) lower = absurd (never (sym (ap t r) ∙ p) q)
+    by false q (inr r) lower = (lower r .0, ap (λ (b : Bool). firstOf b k (highest t k)) q ∙ lower r .1)
+
+-- ---- what the state says after the places below k
+
+-- its fit is the one at the highest place that fits
+pub record Top (c : List ℕ) (s k : ℕ) (st : Search) : Type 0 where
+  pub below : st .place < k
+  pub pattern : st .pattern ≡ candidate s (st .place)
+  pub fits : fitsAt c s (st .place) ≡ true
+  pub last : (e : ℕ) → st .place < e → e < k → fitsAt c s e ≡ false
+
+pub data Seen (c : List ℕ) (s k : ℕ) (st : Search) : Type 0 where
+  none : st .changes ≡ 0 → ((e : ℕ) → e < k → fitsAt c s e ≡ false) → Seen c s k st
+  one : st .changes ≡ 1 → Top c s k st → ((e : ℕ) → e < k → fitsAt c s e ≡ true → changeAt s e ≡ changeAt s (st .place)) → Seen c s k st
+  many : st .changes ≡ 2 → Top c s k st → (e : ℕ) → e < k → fitsAt c s e ≡ true → (changeAt s e ≡ changeAt s (st .place) → ⊥) → Seen c s k st
+
+-- the state with another candidate, and the rest from a second state
+abbrev moved : Search → ℕ → Search
+moved st n = record { candidate = n; changes = st .changes; place = st .place; pattern = st .pattern }
+
+higher : (c : List ℕ) (s k : ℕ) (st : Search) (n : ℕ) → fitsAt c s k ≡ false → Top c s k st → Top c s (suc k) (moved st n)
+higher c s k st n f t = record { below = lt-trans (t .below) (le-refl (suc k)); pattern = t .pattern; fits = t .fits; last = more }
+  where
+    more : (e : ℕ) → st .place < e → e < suc k → fitsAt c s e ≡ false
+    more e a l = by (below-suc e k l)
+      where
+        by : (e ≡ k) ⊎ (e < k) → fitsAt c s e ≡ false
+        by (inl q) = ap (fitsAt c s) q ∙ f
+        by (inr q) = t .last e a q
+
+-- a place that does not fit changes nothing
+passed-by : (c : List ℕ) (s k : ℕ) (st : Search) (n : ℕ) → fitsAt c s k ≡ false → Seen c s k st → Seen c s (suc k) (moved st n)
+passed-by c s k st n f (none z h) = none z more
+  where
+    more : (e : ℕ) → e < suc k → fitsAt c s e ≡ false
+    more e l = by (below-suc e k l)
+      where
+        by : (e ≡ k) ⊎ (e < k) → fitsAt c s e ≡ false
+        by (inl q) = ap (fitsAt c s) q ∙ f
+        by (inr q) = h e q
+passed-by c s k st n f (one z t h) = one z (higher c s k st n f t) more
+  where
+    more : (e : ℕ) → e < suc k → fitsAt c s e ≡ true → changeAt s e ≡ changeAt s (st .place)
+    more e l p = by (below-suc e k l)
+      where
+        by : (e ≡ k) ⊎ (e < k) → changeAt s e ≡ changeAt s (st .place)
+        by (inl q) = absurd (never (sym (ap (fitsAt c s) q) ∙ p) f)
+        by (inr q) = h e q p
+passed-by c s k st n f (many z t e l p d) = many z (higher c s k st n f t) e (lt-trans l (le-refl (suc k))) p d
+
+-- the state after a fit at place k
+abbrev after : ℕ → ℕ → ℕ → ℕ → Search
+after k p n changes = record { candidate = n; changes = changes; place = k; pattern = p }
+
+top : (c : List ℕ) (s k n changes : ℕ) → fitsAt c s k ≡ true → Top c s (suc k) (after k (candidate s k) n changes)
+top c s k n changes f =
+    record { below = le-refl (suc k); pattern = refl; fits = f; last = λ e a l. absurd (lt-irrefl k (lt-of-lt-of-le a (le-of-suc-le-suc l))) }
+
+first-fit : (c : List ℕ) (s k n : ℕ) → fitsAt c s k ≡ true → ((e : ℕ) → e < k → fitsAt c s e ≡ false) → Seen c s (suc k) (after k (candidate s k) n 1)
+first-fit c s k n f h = one refl (top c s k n 1 f) more
+  where
+    more : (e : ℕ) → e < suc k → fitsAt c s e ≡ true → changeAt s e ≡ changeAt s k
+    more e l p = by (below-suc e k l)
+      where
+        by : (e ≡ k) ⊎ (e < k) → changeAt s e ≡ changeAt s k
+        by (inl q) = ap (changeAt s) q
+        by (inr q) = absurd (never p (h e q))
+
+same-fit : (c : List ℕ) (s k n q : ℕ) → fitsAt c s k ≡ true → changeAt s q ≡ changeAt s k
+    → ((e : ℕ) → e < k → fitsAt c s e ≡ true → changeAt s e ≡ changeAt s q) → Seen c s (suc k) (after k (candidate s k) n 1)
+same-fit c s k n q f g h = one refl (top c s k n 1 f) more
+  where
+    more : (e : ℕ) → e < suc k → fitsAt c s e ≡ true → changeAt s e ≡ changeAt s k
+    more e l p = by (below-suc e k l)
+      where
+        by : (e ≡ k) ⊎ (e < k) → changeAt s e ≡ changeAt s k
+        by (inl r) = ap (changeAt s) r
+        by (inr r) = h e r p ∙ g
+
+other-fit : (c : List ℕ) (s k n q : ℕ) → fitsAt c s k ≡ true → q < k → fitsAt c s q ≡ true → (changeAt s q ≡ changeAt s k → ⊥)
+    → Seen c s (suc k) (after k (candidate s k) n 2)
+other-fit c s k n q f l p d = many refl (top c s k n 2 f) q (lt-trans l (le-refl (suc k))) p d
+
+-- a fit at place k, by what was seen before
+fit-more : (c : List ℕ) (s k : ℕ) (st : Search) (n : ℕ) → fitsAt c s k ≡ true → st .candidate ≡ candidate s k → Seen c s k st
+    → Seen c s (suc k) (after k (candidate s k) n (counted st k))
+unfolding changeAt
+fit-more c s k st n f e (none z h) =
+    subst (λ (m : ℕ). Seen c s (suc k) (after k (candidate s k) n m))
+    (sym (ap (λ (b : Bool). pickNumber b 1 (pickNumber (eqb (st .pattern * 2 ^ st .place) (st .candidate * 2 ^ k)) (st .changes) 2)) (eq-eqb (st .changes) 0 z)))
+    (first-fit c s k n f h)
+fit-more c s k st n f e (one z t h) = by (eqb (st .pattern * 2 ^ st .place) (st .candidate * 2 ^ k)) refl
+  where
+    here : st .pattern * 2 ^ st .place ≡ changeAt s (st .place)
+    here = ap (λ (p : ℕ). p * 2 ^ st .place) (t .pattern)
+
+    there : st .candidate * 2 ^ k ≡ changeAt s k
+    there = ap (λ (p : ℕ). p * 2 ^ k) e
+
+    count : (b : Bool) → eqb (st .pattern * 2 ^ st .place) (st .candidate * 2 ^ k) ≡ b → counted st k ≡ pickNumber b 1 2
+    count b q =
+        ap₂ (λ (u v : Bool). pickNumber u 1 (pickNumber v (st .changes) 2)) (ap (λ (m : ℕ). eqb m 0) z) q
+        ∙ ap (λ (m : ℕ). pickNumber b m 2) z
+
+    by : (b : Bool) → eqb (st .pattern * 2 ^ st .place) (st .candidate * 2 ^ k) ≡ b → Seen c s (suc k) (after k (candidate s k) n (counted st k))
+    by true q =
+        subst (λ (m : ℕ). Seen c s (suc k) (after k (candidate s k) n m)) (sym (count true q))
+        (same-fit c s k n (st .place) f (sym here ∙ eqb-true (st .pattern * 2 ^ st .place) (st .candidate * 2 ^ k) q ∙ there) h)
+    by false q =
+        subst (λ (m : ℕ). Seen c s (suc k) (after k (candidate s k) n m)) (sym (count false q))
+        (other-fit c s k n (st .place) f (t .below) (t .fits)
+        (λ p. eqb-false (st .pattern * 2 ^ st .place) (st .candidate * 2 ^ k) q (here ∙ p ∙ sym there)))
+fit-more c s k st n f e (many z t i l p d) = by (eqb (changeAt s i) (changeAt s k)) refl
+  where
+    count : (b : Bool) → eqb (st .pattern * 2 ^ st .place) (st .candidate * 2 ^ k) ≡ b → counted st k ≡ 2
+    count true q = ap₂ (λ (u v : Bool). pickNumber u 1 (pickNumber v (st .changes) 2)) (ap (λ (m : ℕ). eqb m 0) z) q ∙ z
+    count false q = ap₂ (λ (u v : Bool). pickNumber u 1 (pickNumber v (st .changes) 2)) (ap (λ (m : ℕ). eqb m 0) z) q
+
+    two : Seen c s (suc k) (after k (candidate s k) n 2) → Seen c s (suc k) (after k (candidate s k) n (counted st k))
+    two seen =
+        subst (λ (m : ℕ). Seen c s (suc k) (after k (candidate s k) n m))
+        (sym (count (eqb (st .pattern * 2 ^ st .place) (st .candidate * 2 ^ k)) refl)) seen
+
+    by : (b : Bool) → eqb (changeAt s i) (changeAt s k) ≡ b → Seen c s (suc k) (after k (candidate s k) n (counted st k))
+    by true q =
+        two (other-fit c s k n (st .place) f (t .below) (t .fits) (λ r. d (eqb-true (changeAt s i) (changeAt s k) q ∙ sym r)))
+    by false q = two (other-fit c s k n i f l p (eqb-false (changeAt s i) (changeAt s k) q))
+
+seen-next : (c : List ℕ) (s k : ℕ) (st : Search) → st .candidate ≡ candidate s k → Seen c s k st → Seen c s (suc k) (visited c st k)
+unfolding visited noted fitsAt
+seen-next c s k st e seen = by (fitsAt c s k) refl
+  where
+    n : ℕ
+    n = backward (st .candidate)
+
+    state : Bool → Search
+    state b = moved (kept st b k) n
+
+    test : eqb (bitAnd (st .candidate) (marksAt c k)) (st .candidate) ≡ fitsAt c s k
+    test = ap (λ (p : ℕ). eqb (bitAnd p (marksAt c k)) p) e
+
+    by : (b : Bool) → fitsAt c s k ≡ b → Seen c s (suc k) (visited c st k)
+    by true f =
+        subst (λ (b : Bool). Seen c s (suc k) (state b)) (sym (test ∙ f))
+        (subst (λ (p : ℕ). Seen c s (suc k) (after k p n (counted st k))) (sym e) (fit-more c s k st n f e seen))
+    by false f = subst (λ (b : Bool). Seen c s (suc k) (state b)) (sym (test ∙ f)) (passed-by c s k st n f seen)
+
+pub search-start : (c : List ℕ) (s : ℕ) → _≡_ {A = Search} (record { candidate = s; changes = 0; place = 0; pattern = 0 }) (searchTo c s 0)
+unfolding searchTo
+search-start c s = refl
+
+pub search-next : (c : List ℕ) (s k : ℕ) → searchTo c s (k + 1) ≡ visited c (searchTo c s k) k
+unfolding searchTo
+search-next c s k = ap (searchTo c s) (add-one k)
+
+pub search-candidate : (c : List ℕ) (s k : ℕ) → searchTo c s k .candidate ≡ candidate s k
+unfolding searchTo visited candidate
+search-candidate c s zero = refl
+search-candidate c s (suc k) = ap backward (search-candidate c s k)
+
+pub search-seen : (c : List ℕ) (s k : ℕ) → Seen c s k (searchTo c s k)
+unfolding searchTo
+search-seen c s zero = none refl (λ e l. absurd (not-suc-le-zero l))
+search-seen c s (suc k) = seen-next c s k (searchTo c s k) (search-candidate c s k) (search-seen c s k)
+
+-- ---- the numbers of the state are in range
+
+in-range : (c : List ℕ) (s k : ℕ) → s < 2 ^ 24 → (searchTo c s k .place ≤ k) × (searchTo c s k .pattern < 2 ^ 24)
+unfolding searchTo visited noted
+in-range c s zero h = (le-refl 0, lit< tt)
+in-range c s (suc k) h = by (eqb (bitAnd (st .candidate) (marksAt c k)) (st .candidate)) (in-range c s k h)
+  where
+    st : Search
+    st = searchTo c s k
+
+    by : (b : Bool) → (st .place ≤ k) × (st .pattern < 2 ^ 24) → (kept st b k .place ≤ suc k) × (kept st b k .pattern < 2 ^ 24)
+    by true r = (le-suc k, subst (λ (p : ℕ). p < 2 ^ 24) (sym (search-candidate c s k)) (candidate-lt s k h))
+    by false r = (omega arith, r .1)
+
+pub search-sound : (c : List ℕ) (s k : ℕ) → 0 < s → s < 2 ^ 24 → Sound (searchTo c s k) k
+unfolding Sound
+search-sound c s k p h = (
+  (
+    subst (λ (n : ℕ). 0 < n) (sym (search-candidate c s k)) (candidate-pos s k p h),
+    subst (λ (n : ℕ). n < 2 ^ 24) (sym (search-candidate c s k)) (candidate-lt s k h),
+  ),
+  in-range c s k h,
+)
+
+-- ---- two patterns at two places are the same message bits
+
+pub same-bits : (p q a b : ℕ) → a ≤ b → eqb p (q * 2 ^ (b - a)) ≡ eqb (p * 2 ^ a) (q * 2 ^ b)
+same-bits p q a b h = by (eqb p (q * 2 ^ (b - a))) refl
+  where
+    whole : q * 2 ^ (b - a) * 2 ^ a ≡ q * 2 ^ b
+    whole = let sum : b - a + a ≡ b = omega arith in shl-shl q (b - a) a ∙ ap (λ (k : ℕ). q * 2 ^ k) sum
+
+    by : (t : Bool) → eqb p (q * 2 ^ (b - a)) ≡ t → t ≡ eqb (p * 2 ^ a) (q * 2 ^ b)
+    by true e = sym (eq-eqb (p * 2 ^ a) (q * 2 ^ b) (ap (λ (n : ℕ). n * 2 ^ a) (eqb-true p (q * 2 ^ (b - a)) e) ∙ whole))
+    by false e =
+        sym (ne-eqb (p * 2 ^ a) (q * 2 ^ b) (λ r. eqb-false p (q * 2 ^ (b - a)) e (sym (shl-shr p a) ∙ ap (λ (n : ℕ). n / 2 ^ a) (r ∙ sym whole) ∙ shl-shr (q * 2 ^ (b - a)) a)))
+
+pub far-apart : (p q a b : ℕ) → a ≤ b → 24 ≤ b - a → p < 2 ^ 24 → 0 < q → false ≡ eqb (p * 2 ^ a) (q * 2 ^ b)
+far-apart p q a b h far hp hq = sym (ne-eqb p (q * 2 ^ (b - a)) (λ r. lt-irrefl p (lt-of-lt-of-le hp (subst (λ (n : ℕ). 2 ^ 24 ≤ n) (sym r) large)))) ∙ same-bits p q a b h
+  where
+    large : 2 ^ 24 ≤ q * 2 ^ (b - a)
+    large = le-trans (pow-mono {i = 24} {j = b - a} far) (le-trans (le-of-eq (sym (one-mul (2 ^ (b - a))))) (mul-le-mul-right (2 ^ (b - a)) hq))

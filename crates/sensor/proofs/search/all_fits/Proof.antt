@@ -1,0 +1,75 @@
+-- `sensor::search::all_fits` meets its contract. The loop's invariant: the state of the definition after the places passed.
+use mathlib.Core.Path.{_≡_, refl, sym, ap, ap₂, _∙_, subst}
+use mathlib.Core.List.{List}
+use Prim.Native.Nat.{ℕ, suc, _+_, _-_, _*_, _≤_}
+use native.Mathlib.Nat.{le-antisymm}
+use native.Mathlib.Numerals.{add-one}
+use native.Mathlib.Omega.{arith}
+use lib.ListN.{length}
+use Rattle.sensor.specs.Changes.{lastWindow}
+use Rattle.sensor.specs.Searching.{Sound, visited, searchTo}
+use Rattle.sensor.specs.declared.search.Search.{Search}
+use Rattle.sensor.proofs.Fits.{search-start, search-next, search-sound}
+use Rattle.sensor.proofs.search.all_fits.Statement.{statement}
+use Rattle.sensor.proofs.search.all_fits.Tie as tie
+
+abbrev Inv-loop : tie.InvT-loop
+Inv-loop c syndrome windows state₀ place₀ state place =
+    (place ≤ length c * 8 - 23) × (state ≡ searchTo c syndrome place)
+
+abbrev μ-loop : tie.MeasureT-loop
+μ-loop c syndrome windows state₀ place₀ state place = length c * 8 - 23 - place
+
+mul-windows : tie.Need-mul-windows Inv-loop μ-loop
+mul-windows c = omega arith
+
+sub-windows : tie.Need-sub-windows Inv-loop μ-loop
+sub-windows c = omega arith
+
+loop-holds : tie.Need-loop-holds Inv-loop μ-loop
+loop-holds c = (omega arith, search-start (c .before .args .c .now) (c .before .args .syndrome))
+
+visit-requires : tie.Need-visit-requires Inv-loop μ-loop
+visit-requires c κs = (
+  c .before .before .before .pre .0,
+  (
+    omega arith,
+    subst (λ (st : Search). Sound st (c .before .loop .place)) (sym (c .before .loop .inv .1))
+        (search-sound (c .before .before .before .args .c .now) (c .before .before .before .args .syndrome) (c .before .loop .place) (c .before .before .before .pre .1 .0) (c .before .before .before .pre .1 .1)),
+  ),
+)
+
+add-place : tie.Need-add-place Inv-loop μ-loop
+add-place c = omega arith
+
+loop-less : tie.Need-loop-less Inv-loop μ-loop
+loop-less c = omega arith
+
+loop-again : tie.Need-loop-again Inv-loop μ-loop
+loop-again c = (
+  omega arith,
+  c .visit .ensures
+      ∙ ap (λ (st : Search). visited (c .before .before .before .before .args .c .now) st (c .before .before .loop .place)) (c .before .before .loop .inv .1)
+      ∙ sym (search-next (c .before .before .before .before .args .c .now) (c .before .before .before .before .args .syndrome) (c .before .before .loop .place)),
+)
+
+returns : tie.Need-returns Inv-loop μ-loop
+returns c =
+    let l : List ℕ = c .before .before .before .args .c .now in
+    let all : c .before .loop .place ≡ suc (lastWindow l) = omega arith in
+    c .before .loop .inv .1 ∙ ap (searchTo l (c .before .before .before .args .syndrome)) all
+
+pub all-fits-spec : {M : Type 1} → statement M
+all-fits-spec =
+    tie.close
+    (tie.spec
+    Inv-loop
+    μ-loop
+    mul-windows
+    sub-windows
+    loop-holds
+    visit-requires
+    add-place
+    loop-less
+    loop-again
+    returns)

@@ -1,0 +1,65 @@
+-- `sensor::search::dense_at` meets its contract: the marks of the part are the marks of the window.
+use mathlib.Core.Path.{_≡_, sym, ap, ap₂, _∙_, subst}
+use mathlib.Core.List.{List}
+use Prim.Native.Nat.{ℕ, _-_, _/_, _%_}
+use lib.ListN.{length, take, drop}
+use lib.Dec.{eqb, ltb}
+use lib.Bits.{bitAnd}
+use lib.Count.{ones}
+use borrow.Author.Needs.{needs}
+use Rattle.division.proofs.Laws.{part-from}
+use Rattle.sensor.specs.Windows.{Starts, windowMarks}
+use Rattle.sensor.specs.Verdicts.{denseAt}
+use Rattle.sensor.proofs.Marks.{windowAt, window-starts, marks-at}
+use Rattle.sensor.proofs.search.dense_at.Statement.{statement}
+use Rattle.sensor.proofs.search.dense_at.Tie as tie
+
+mul-window : tie.Need-mul-window
+mul-window c = search needs
+
+sub-window : tie.Need-sub-window
+sub-window c = search needs
+
+sub-window-2 : tie.Need-sub-window-2
+sub-window-2 c = search needs
+
+cast-offset : tie.Need-cast-offset
+cast-offset c = search needs
+
+sub-is-dense : tie.Need-sub-is-dense
+sub-is-dense c = search needs
+
+part-is-dense-start : tie.Need-part-is-dense-start
+part-is-dense-start c = search needs
+
+part-is-dense-end : tie.Need-part-is-dense-end
+part-is-dense-end c = search needs
+
+is-dense-requires : tie.Need-is-dense-requires
+is-dense-requires c κs =
+    let m : List ℕ = c .before .before .args .c .now in
+    let e : ℕ = c .before .before .args .place in
+    subst (λ (p : List ℕ). Starts p (windowAt m e % 8)) (sym (part-from (windowAt m e / 8) m)) (window-starts m e (c .before .before .pre .0 .0) (c .before .before .pre .1))
+
+returns : tie.Need-returns
+unfolding denseAt
+returns c =
+    let m : List ℕ = c .before .before .before .args .c .now in
+    let e : ℕ = c .before .before .before .args .place in
+    c .is-dense .ensures
+    ∙ ap (λ (n : ℕ). ltb (c .before .before .before .args .limit) (ones n))
+    (ap (λ (p : List ℕ). windowMarks p (windowAt m e % 8)) (part-from (windowAt m e / 8) m) ∙ marks-at m e (c .before .before .before .pre .0 .0) (c .before .before .before .pre .1))
+
+pub dense-at-spec : {M : Type 1} → statement M
+dense-at-spec =
+    tie.close
+    (tie.spec
+    mul-window
+    sub-window
+    sub-window-2
+    cast-offset
+    sub-is-dense
+    part-is-dense-start
+    part-is-dense-end
+    is-dense-requires
+    returns)

@@ -1,0 +1,86 @@
+-- `sensor::search::visit` meets its contract: the marks of the part are the marks of the window.
+use mathlib.Core.Path.{_≡_, sym, ap, ap₂, _∙_, subst}
+use mathlib.Core.List.{List}
+use mathlib.Core.Bool.{Bool}
+use Prim.Native.Nat.{ℕ, _-_, _/_, _%_}
+use lib.ListN.{length, take, drop}
+use lib.Dec.{eqb, ltb}
+use lib.Bits.{bitAnd}
+use lib.Count.{ones}
+use borrow.Author.Needs.{needs}
+use Rattle.division.specs.Division.{backward}
+use Rattle.division.proofs.Laws.{part-from}
+use Rattle.sensor.specs.Changes.{marksAt}
+use Rattle.sensor.specs.Windows.{Starts, windowMarks}
+use Rattle.sensor.specs.Searching.{Sound, kept, visited}
+use Rattle.sensor.specs.declared.search.Search.{Search}
+use Rattle.sensor.proofs.Marks.{windowAt, window-starts, marks-at}
+use Rattle.sensor.proofs.search.visit.Statement.{statement}
+use Rattle.sensor.proofs.search.visit.Tie as tie
+
+mul-window : tie.Need-mul-window
+mul-window c = search needs
+
+sub-window : tie.Need-sub-window
+sub-window c = search needs
+
+sub-window-2 : tie.Need-sub-window-2
+sub-window-2 c = search needs
+
+cast-offset : tie.Need-cast-offset
+cast-offset c = search needs
+
+sub-fits : tie.Need-sub-fits
+sub-fits c = search needs
+
+part-fits-start : tie.Need-part-fits-start
+part-fits-start c = search needs
+
+part-fits-end : tie.Need-part-fits-end
+part-fits-end c = search needs
+
+fits-requires : tie.Need-fits-requires
+fits-requires c κs =
+    let m : List ℕ = c .before .before .args .c .now in
+    let e : ℕ = c .before .before .args .place in
+    subst (λ (p : List ℕ). Starts p (windowAt m e % 8)) (sym (part-from (windowAt m e / 8) m)) (window-starts m e (c .before .before .pre .0 .0) (c .before .before .pre .1 .0))
+
+cast-keep : tie.Need-cast-keep
+cast-keep c = search needs
+
+keep-requires : tie.Need-keep-requires
+keep-requires c κs = search needs
+
+divide-by-x-requires : tie.Need-divide-by-x-requires
+unfolding Sound
+divide-by-x-requires c κs = c .before .before .before .before .pre .1 .1 .0 .1
+
+returns : tie.Need-returns
+unfolding visited
+returns c =
+    let m : List ℕ = c .before .before .before .before .before .args .c .now in
+    let e : ℕ = c .before .before .before .before .before .args .place in
+    let st : Search = c .before .before .before .before .before .args .state in
+    let marks : windowMarks (take (length m - windowAt m e / 8) (drop (windowAt m e / 8) m)) (windowAt m e % 8) ≡ marksAt m e =
+    ap (λ (p : List ℕ). windowMarks p (windowAt m e % 8)) (part-from (windowAt m e / 8) m) ∙ marks-at m e (c .before .before .before .before .before .pre .0 .0) (c .before .before .before .before .before .pre .1 .0) in
+    let here : c .before .before .fits2 .result ≡ eqb (bitAnd (st .candidate) (marksAt m e)) (st .candidate) =
+    c .before .before .fits2 .ensures ∙ ap (λ (n : ℕ). eqb (bitAnd (st .candidate) n) (st .candidate)) marks in
+    ap₂ (λ (n : ℕ) (seen : Search). record { candidate = n; changes = seen .changes; place = seen .place; pattern = seen .pattern }) (c .divide-by-x .ensures)
+    (c .before .keep .ensures ∙ ap (λ (b : Bool). kept st b e) here)
+
+pub visit-spec : {M : Type 1} → statement M
+visit-spec =
+    tie.close
+    (tie.spec
+    mul-window
+    sub-window
+    sub-window-2
+    cast-offset
+    sub-fits
+    part-fits-start
+    part-fits-end
+    fits-requires
+    cast-keep
+    keep-requires
+    divide-by-x-requires
+    returns)

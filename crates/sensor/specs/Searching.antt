@@ -1,0 +1,55 @@
+-- What the search of the code holds after some places. That it ends with what Verdicts.antt defines is the law
+-- `search-seen` (proofs/Fits.antt).
+use Prim.Native.Nat.{ℕ, zero, suc, _*_, _^_, _<_, _≤_}
+use mathlib.Core.Path.{_≡_}
+use mathlib.Core.List.{List}
+use mathlib.Core.Bool.{Bool, true, false}
+use lib.Bits.{bitAnd}
+use lib.Dec.{eqb}
+use Rattle.division.specs.Division.{backward}
+use Rattle.sensor.specs.Changes.{marksAt}
+use Rattle.sensor.specs.Verdicts.{Found}
+use Rattle.sensor.specs.Verdicts.Found.{nowhere, at}
+use Rattle.sensor.specs.declared.search.Spot.{Spot}
+use Rattle.sensor.specs.declared.search.Spot.the-variants.{Nowhere, At}
+use Rattle.sensor.specs.declared.search.Search.{Search}
+
+abbrev pub foundOf : Spot → Found
+foundOf Nowhere = nowhere
+foundOf (At e) = at e
+
+-- The numbers of a state are in range before place e: the candidate is a nonzero word, and so is the pattern of a fit at a
+-- lower place.
+unfoldable pub Sound : Search → ℕ → Type 0
+Sound st e = ((0 < st .candidate) × (st .candidate < 2 ^ 24)) × ((st .place ≤ e) × (st .pattern < 2 ^ 24))
+
+abbrev pub pickNumber : Bool → ℕ → ℕ → ℕ
+pickNumber true a b = a
+pickNumber false a b = b
+
+abbrev pub pickState : Bool → Search → Search → Search
+pickState true a b = a
+pickState false a b = b
+
+-- how many changes fit, with one fit more at place e
+abbrev pub counted : Search → ℕ → ℕ
+counted st e =
+    pickNumber (eqb (st .changes) 0) 1
+    (pickNumber (eqb (st .pattern * 2 ^ st .place) (st .candidate * 2 ^ e)) (st .changes) 2)
+
+unfoldable pub noted : Search → ℕ → Search
+noted st e = record { candidate = st .candidate; changes = counted st e; place = e; pattern = st .candidate }
+
+abbrev pub kept : Search → Bool → ℕ → Search
+kept st here e = pickState here (noted st e) st
+
+-- the state after the window at place e
+unfoldable pub visited : List ℕ → Search → ℕ → Search
+visited c st e =
+    let seen = kept st (eqb (bitAnd (st .candidate) (marksAt c e)) (st .candidate)) e in
+    record { candidate = backward (st .candidate); changes = seen .changes; place = seen .place; pattern = seen .pattern }
+
+-- the state after the places below k, from the syndrome s
+unfoldable pub searchTo : List ℕ → ℕ → ℕ → Search
+searchTo c s zero = record { candidate = s; changes = 0; place = 0; pattern = 0 }
+searchTo c s (suc k) = visited c (searchTo c s k) k

@@ -1,0 +1,168 @@
+// The search for fits, from the last window to the first, and for the lowest dense window.
+//
+// The window at place e needs the syndrome divided by x e times. The search keeps the fit of the lowest window so far, and
+// whether all fits so far invert the same message bits.
+ghost use Prim.Native.Nat.{_<_, _≤_, _*_, _^_, suc};
+ghost use mathlib.Core.Path.{_≡_};
+ghost use mathlib.Core.Bool.{Bool};
+ghost use lib.Dec.{eqb};
+ghost use lib.ListN.{length};
+ghost use Rattle.division.specs.Division.{backward};
+ghost use Rattle.sensor.specs.Changes.{lastWindow};
+ghost use Rattle.sensor.specs.Verdicts.{denseAt, firstOf, highest};
+ghost use Rattle.sensor.specs.Searching.{foundOf, Sound, noted, kept, visited, searchTo};
+use crate::windows::fits;
+use crate::windows::is_dense;
+use division::Word;
+
+// A place, or none.
+pub(crate) enum Spot {
+    Nowhere,
+    At(u32),
+}
+
+// What the search holds: the pattern that the next window needs; how many changes fit, 2 for more than one; and the fit of
+// the lowest window so far, as its place and its pattern.
+pub(crate) struct Search {
+    pub candidate: u32,
+    pub changes: u32,
+    pub place: u32,
+    pub pattern: u32,
+}
+
+// The highest place whose window has more low marks than the limit.
+pub(crate) fn highest_dense(c: &[u8], limit: u32) -> Spot
+    requires { ⌜ (3 ≤ length (now c)) × (length (now c) ≤ 14) ⌝ }
+    ensures { λ r. ⌜ foundOf r ≡ highest (denseAt (now (c .entry)) limit) (suc (lastWindow (now (c .entry)))) ⌝ }
+{
+    let windows = c.len() * 8 - 23;
+    let mut spot = Spot::Nowhere;
+    let mut place: usize = 0;
+    while place < windows {
+        spot = later(spot, dense_at(c, limit, place), place as u32);
+        place += 1;
+    }
+    spot
+}
+
+fn later(before: Spot, here: bool, place: u32) -> Spot
+    ensures { λ r. ⌜ foundOf r ≡ firstOf here place (foundOf before) ⌝ }
+{
+    if here { Spot::At(place) } else { before }
+}
+
+// The test of the window at a place, on the part of the confidence buffer from its first byte on.
+fn dense_at(c: &[u8], limit: u32, place: usize) -> bool
+    requires { ⌜ (3 ≤ length (now c)) × (length (now c) ≤ 14) ⌝ }
+    requires { ⌜ place ≤ lastWindow (now c) ⌝ }
+    ensures { λ r. ⌜ r ≡ denseAt (now (c .entry)) limit place ⌝ }
+{
+    let window = c.len() * 8 - 24 - place;
+    let at = window / 8;
+    let offset = (window % 8) as u32;
+    is_dense(&c[at..], offset, limit)
+}
+
+// The fits of every window, of a syndrome that is not zero.
+pub(crate) fn all_fits(c: &[u8], syndrome: u32) -> Search
+    requires { ⌜ (3 ≤ length (now c)) × (length (now c) ≤ 14) ⌝ }
+    requires { ⌜ (0 < syndrome) × (syndrome < 2 ^ 24) ⌝ }
+    ensures { λ r. ⌜ r ≡ searchTo (now (c .entry)) syndrome (suc (lastWindow (now (c .entry)))) ⌝ }
+{
+    let windows = c.len() * 8 - 23;
+    let mut state = Search {
+        candidate: syndrome,
+        changes: 0,
+        place: 0,
+        pattern: 0,
+    };
+    let mut place: usize = 0;
+    while place < windows {
+        state = visit(state, c, place);
+        place += 1;
+    }
+    state
+}
+
+// One window.
+fn visit(state: Search, c: &[u8], place: usize) -> Search
+    requires { ⌜ (3 ≤ length (now c)) × (length (now c) ≤ 14) ⌝ }
+    requires { ⌜ place ≤ lastWindow (now c) ⌝ }
+    requires { ⌜ Sound state place ⌝ }
+    ensures { λ r. ⌜ r ≡ visited (now (c .entry)) state place ⌝ }
+{
+    let pattern = state.candidate;
+    let window = c.len() * 8 - 24 - place;
+    let at = window / 8;
+    let offset = (window % 8) as u32;
+    let here = fits(&c[at..], offset, pattern);
+    let seen = keep(state, here, place as u32);
+    Search {
+        candidate: divide_by_x(pattern),
+        changes: seen.changes,
+        place: seen.place,
+        pattern: seen.pattern,
+    }
+}
+
+fn keep(state: Search, here: bool, place: u32) -> Search
+    requires { ⌜ Sound state place ⌝ }
+    ensures { λ r. ⌜ r ≡ kept state here place ⌝ }
+{
+    if here { note(state, place) } else { state }
+}
+
+// One fit more: the first, the same message bits again, or others.
+fn note(state: Search, place: u32) -> Search
+    requires { ⌜ Sound state place ⌝ }
+    ensures { λ r. ⌜ r ≡ noted state place ⌝ }
+{
+    let candidate = state.candidate;
+    let changes = state.changes;
+    let last_pattern = state.pattern;
+    let last_place = state.place;
+    let now = if changes == 0 {
+        1
+    } else {
+        if same_change(last_pattern, last_place, candidate, place) {
+            changes
+        } else {
+            2
+        }
+    };
+    Search {
+        candidate: candidate,
+        changes: now,
+        place: place,
+        pattern: candidate,
+    }
+}
+
+// Whether two patterns at two places are the same message bits.
+fn same_change(low_pattern: u32, low_place: u32, pattern: u32, place: u32) -> bool
+    requires { ⌜ («low_place» ≤ place) × («low_pattern» < 2 ^ 24) ⌝ }
+    requires { ⌜ (0 < pattern) × (pattern < 2 ^ 24) ⌝ }
+    ensures { λ r. ⌜ r ≡ eqb («low_pattern» * 2 ^ «low_place») (pattern * 2 ^ place) ⌝ }
+{
+    let distance = place - low_place;
+    if distance < 24 {
+        let wide = pattern as u64;
+        let shifted = wide << distance;
+        let low = low_pattern as u64;
+        low == shifted
+    } else {
+        false
+    }
+}
+
+// The pattern that the window before needs.
+fn divide_by_x(pattern: u32) -> u32
+    requires { ⌜ pattern < 2 ^ 24 ⌝ }
+    ensures { λ r. ⌜ r ≡ backward pattern ⌝ }
+{
+    let answer = division::register_back(pattern);
+    match answer {
+        Word::Value(r) => r,
+        Word::Refused(_) => 0,
+    }
+}
