@@ -2,3 +2,4 @@
 pub mod Marks
 pub mod Bits
 pub mod Fits
+pub mod Rows

@@ -2,7 +2,7 @@
 -- `search-seen` (proofs/Fits.antt).
 use Prim.Native.Nat.{ℕ, zero, suc, _*_, _^_, _<_, _≤_}
 use mathlib.Core.Path.{_≡_}
-use mathlib.Core.List.{List}
+use mathlib.Core.List.{List, []}
 use mathlib.Core.Bool.{Bool, true, false}
 use lib.Bits.{bitAnd}
 use lib.Dec.{eqb}
@@ -10,6 +10,10 @@ use Rattle.division.specs.Division.{backward}
 use Rattle.sensor.specs.Changes.{marksAt}
 use Rattle.sensor.specs.Verdicts.{Found}
 use Rattle.sensor.specs.Verdicts.Found.{nowhere, at}
+use Rattle.division.specs.Answers.{Outcome}
+use Rattle.division.specs.Answers.Outcome.{refusal, answer}
+use Rattle.sensor.specs.declared.Admission.{Admission}
+use Rattle.sensor.specs.declared.Admission.the-variants.{Passed, Refused}
 use Rattle.sensor.specs.declared.search.Spot.{Spot}
 use Rattle.sensor.specs.declared.search.Spot.the-variants.{Nowhere, At}
 use Rattle.sensor.specs.declared.search.Search.{Search}
@@ -53,3 +57,12 @@ visited c st e =
 unfoldable pub searchTo : List ℕ → ℕ → ℕ → Search
 searchTo c s zero = record { candidate = s; changes = 0; place = 0; pattern = 0 }
 searchTo c s (suc k) = visited c (searchTo c s k) k
+
+-- the mark for a number of changes: sole for one
+abbrev pub markFor : ℕ → ℕ
+markFor n = pickNumber (eqb n 1) 1 2
+
+-- what the check of a call says
+abbrev pub checkSaid : Admission → Outcome
+checkSaid Passed = answer 0 []
+checkSaid (Refused n) = refusal n

@@ -85,13 +85,18 @@ abbrev pub cleanRow : Bool → Row → Row
 cleanRow true r = clean
 cleanRow false r = r
 
+-- Of a syndrome that is not zero: no fit, or the fit of the lowest window that has one.
+unfoldable pub fitsRow : List ℕ → ℕ → Row
+fitsRow c s =
+    fitRow (λ e. highest (differsAt c s e) (suc (lastWindow c))) (highest (fitsAt c s) (suc (lastWindow c)))
+
+-- Before that, whether a window is dense.
+unfoldable pub hitRow : List ℕ → ℕ → ℕ → Row
+hitRow c s l = denseRow (highest (denseAt c l) (suc (lastWindow c))) (fitsRow c s)
+
+-- Before that, whether the message is clean.
 unfoldable pub rowOf : List ℕ → List ℕ → ℕ → ℕ → Row
-rowOf m c w l =
-    let s = syndrome m w in
-    let windows = suc (lastWindow c) in
-    cleanRow (eqb s 0)
-    (denseRow (highest (denseAt c l) windows)
-    (fitRow (λ e. highest (differsAt c s e) windows) (highest (fitsAt c s) windows)))
+rowOf m c w l = cleanRow (eqb (syndrome m w) 0) (hitRow c (syndrome m w) l)
 
 -- sole is 1, several is 2
 abbrev pub markNumber : Found → ℕ
@@ -121,15 +126,20 @@ rowMessage m s (corrected e other) = inverted m (changeAt s e)
 
 -- ---- the call
 
--- Rows 1 to 4 of the refusals, or the row that applies.
-unfoldable pub sensorOutcome : List ℕ → List ℕ → ℕ → ℕ → Outcome
-sensorOutcome m c w l =
-    unless (isMessageLength (length m)) wrongLength
-    (unless (eqb (length c) (length m)) wrongConfidenceLength
-    (unless (isWord w) wordTooLarge
-    (unless (leb l 24) limitTooLarge
-    (rowAnswer m (syndrome m w) (rowOf m c w l)))))
+-- Rows 1 to 4 of the refusals, by the two lengths and the two numbers.
+abbrev pub checkedNumbers : ℕ → ℕ → Outcome → Outcome
+checkedNumbers w l a = unless (isWord w) wordTooLarge (unless (leb l 24) limitTooLarge a)
 
+unfoldable pub checked : ℕ → ℕ → ℕ → ℕ → Outcome → Outcome
+checked n k w l a =
+    unless (isMessageLength n) wrongLength
+    (unless (eqb k n) wrongConfidenceLength
+    (checkedNumbers w l a))
+
+unfoldable pub sensorOutcome : List ℕ → List ℕ → ℕ → ℕ → Outcome
+sensorOutcome m c w l = checked (length m) (length c) w l (rowAnswer m (syndrome m w) (rowOf m c w l))
+
+-- What a call leaves in the message: where it was refused, what stood there before.
 abbrev pub left : Outcome → List ℕ → List ℕ → List ℕ
 left (refusal n) before after = before
 left (answer n vs) before after = after

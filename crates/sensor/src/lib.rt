@@ -1,8 +1,24 @@
 // The sensor: whether a reply carries the expected word, and if not, the correction that its confidence bits allow.
+//
+// The call is checked first; then it is clean, or the windows are asked for their density, and then for their fits. What it
+// knows of division are its public functions and their contracts.
+ghost use Prim.Native.Nat.{_<_, _≤_, _^_, _-_, _*_};
 ghost use mathlib.Core.Path.{_≡_};
-ghost use Rattle.sensor.specs.Verdicts.{said, sensorOutcome, sensorAfter};
+ghost use mathlib.Core.Bool.{true};
+ghost use mathlib.Core.List.{[]};
+ghost use lib.ListN.{length};
+ghost use Rattle.division.specs.Answers.Outcome.{answer};
+ghost use Rattle.division.specs.Message.{isMessageLength};
+ghost use Rattle.sensor.specs.Verdicts.{said, markOf, syndrome, fitsRow, hitRow, rowOf, rowAnswer, rowMessage, checkedNumbers, checked, sensorOutcome, sensorAfter};
+ghost use Rattle.sensor.specs.Searching.{checkSaid, markFor};
+use inverting::invert;
+use reply::remainder_of;
+use search::Spot;
+use search::all_fits;
+use search::highest_dense;
 
 mod inverting;
+mod reply;
 mod search;
 mod windows;
 
@@ -26,4 +42,125 @@ pub enum Verdict {
     NoFit,
     Corrected(Correction),
     Refused(u32),
+}
+
+// Passed, or the number of the refusal.
+pub(crate) enum Admission {
+    Passed,
+    Refused(u32),
+}
+
+// Says what a reply is, and corrects it where its low-confidence bits allow.
+pub fn correct(m: &mut [u8], c: &[u8], word: u32, limit: u32) -> Verdict
+    ensures { λ r. ⌜ said r ≡ sensorOutcome (now (m .entry)) (now (c .entry)) word limit ⌝ }
+    ensures { λ r. ⌜ now (m .exit) ≡ sensorAfter (now (m .entry)) (now (c .entry)) word limit ⌝ }
+{
+    let checked = check(m.len(), c.len(), word, limit);
+    match checked {
+        Admission::Refused(n) => Verdict::Refused(n),
+        Admission::Passed => judge(m, c, word, limit),
+    }
+}
+
+// Whether a call is refused, and by which row.
+fn check(n: usize, k: usize, word: u32, limit: u32) -> Admission
+    ensures { λ r. ⌜ checkSaid r ≡ checked n k word limit (answer 0 []) ⌝ }
+{
+    if division::is_message_length(n) {
+        if k == n {
+            check_numbers(word, limit)
+        } else {
+            Admission::Refused(2)
+        }
+    } else {
+        Admission::Refused(1)
+    }
+}
+
+fn check_numbers(word: u32, limit: u32) -> Admission
+    ensures { λ r. ⌜ checkSaid r ≡ checkedNumbers word limit (answer 0 []) ⌝ }
+{
+    if division::is_word(word) {
+        if limit <= 24 {
+            Admission::Passed
+        } else {
+            Admission::Refused(4)
+        }
+    } else {
+        Admission::Refused(3)
+    }
+}
+
+// The rows of a call that is not refused.
+fn judge(m: &mut [u8], c: &[u8], word: u32, limit: u32) -> Verdict
+    requires { ⌜ isMessageLength (length (now m)) ≡ true ⌝ }
+    requires { ⌜ length (now c) ≡ length (now m) ⌝ }
+    requires { ⌜ word < 2 ^ 24 ⌝ }
+    ensures { λ r. ⌜ said r ≡ rowAnswer (now (m .entry)) (syndrome (now (m .entry)) word) (rowOf (now (m .entry)) (now (c .entry)) word limit) ⌝ }
+    ensures { λ r. ⌜ now (m .exit) ≡ rowMessage (now (m .entry)) (syndrome (now (m .entry)) word) (rowOf (now (m .entry)) (now (c .entry)) word limit) ⌝ }
+{
+    let s = remainder_of(m) ^ word;
+    if s == 0 {
+        Verdict::Clean
+    } else {
+        judge_hit(m, c, s, limit)
+    }
+}
+
+// The rows of a reply whose syndrome is not zero.
+fn judge_hit(m: &mut [u8], c: &[u8], s: u32, limit: u32) -> Verdict
+    requires { ⌜ isMessageLength (length (now m)) ≡ true ⌝ }
+    requires { ⌜ length (now c) ≡ length (now m) ⌝ }
+    requires { ⌜ (0 < s) × (s < 2 ^ 24) ⌝ }
+    ensures { λ r. ⌜ said r ≡ rowAnswer (now (m .entry)) s (hitRow (now (c .entry)) s limit) ⌝ }
+    ensures { λ r. ⌜ now (m .exit) ≡ rowMessage (now (m .entry)) s (hitRow (now (c .entry)) s limit) ⌝ }
+{
+    let dense = highest_dense(c, limit);
+    match dense {
+        Spot::At(place) => Verdict::Dense(window_at(m.len(), place)),
+        Spot::Nowhere => mend(m, c, s),
+    }
+}
+
+// The fit of the lowest window that has one.
+fn mend(m: &mut [u8], c: &[u8], s: u32) -> Verdict
+    requires { ⌜ isMessageLength (length (now m)) ≡ true ⌝ }
+    requires { ⌜ length (now c) ≡ length (now m) ⌝ }
+    requires { ⌜ (0 < s) × (s < 2 ^ 24) ⌝ }
+    ensures { λ r. ⌜ said r ≡ rowAnswer (now (m .entry)) s (fitsRow (now (c .entry)) s) ⌝ }
+    ensures { λ r. ⌜ now (m .exit) ≡ rowMessage (now (m .entry)) s (fitsRow (now (c .entry)) s) ⌝ }
+{
+    let found = all_fits(c, s);
+    let changes = found.changes;
+    let place = found.place;
+    let pattern = found.pattern;
+    if changes == 0 {
+        Verdict::NoFit
+    } else {
+        invert(m, pattern, place as usize);
+        Verdict::Corrected(Correction {
+            window: window_at(m.len(), place),
+            bits: u32::count_ones(pattern),
+            mark: mark_for(changes),
+        })
+    }
+}
+
+fn mark_for(changes: u32) -> Mark
+    ensures { λ r. ⌜ markOf r ≡ markFor changes ⌝ }
+{
+    if changes == 1 {
+        Mark::Sole
+    } else {
+        Mark::Several
+    }
+}
+
+// The window at a place of n bytes.
+fn window_at(n: usize, place: u32) -> u32
+    requires { ⌜ (3 ≤ n) × (n ≤ 14) ⌝ }
+    ensures { λ r. ⌜ r ≡ 8 * n - 24 - place ⌝ }
+{
+    let last = (8 * n - 24) as u32;
+    if place < last { last - place } else { 0 }
 }

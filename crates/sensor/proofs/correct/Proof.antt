@@ -1,0 +1,67 @@
+-- `sensor::correct` meets its contract: a refusal leaves the message, and else the row that applies answers.
+use mathlib.Core.Path.{_≡_, refl, sym, ap, _∙_, subst}
+use mathlib.Core.List.{List, []}
+use Prim.Native.Nat.{ℕ, _<_, _^_}
+use lib.Bits.{bitXor}
+use lib.ListN.{length}
+use borrow.Author.Needs.{needs}
+use Rattle.division.specs.Answers.{Outcome}
+use Rattle.sensor.specs.Verdicts.{syndrome, rowOf, rowAnswer, rowMessage, sensorOutcome, sensorAfter, left}
+use Rattle.sensor.specs.Searching.{checkSaid}
+use Rattle.sensor.proofs.Rows.{Admitted, admitted, refused-anyhow, left-refused, left-answered}
+use Rattle.sensor.proofs.correct.Statement.{statement}
+use Rattle.sensor.proofs.correct.Tie as tie
+
+check-requires : tie.Need-check-requires
+check-requires c κs = search needs
+
+enum-known-checked : tie.Need-enum-known-checked
+enum-known-checked c = search needs
+
+enum-told : tie.Need-enum-told
+enum-told c = search needs
+
+judge-requires : tie.Need-judge-requires
+judge-requires c κs =
+    let m : List ℕ = c .before .before .before .before .before .before .args .m .now in
+    let k : List ℕ = c .before .before .before .before .before .before .args .c .now in
+    let w : ℕ = c .before .before .before .before .before .before .args .word in
+    let l : ℕ = c .before .before .before .before .before .before .args .limit in
+    let ok : Admitted (length m) (length k) w l = admitted (length m) (length k) w l (ap checkSaid (sym (c .before .enum-told .given .1)) ∙ c .before .before .before .check .ensures) in
+    (ok .length-ok, (ok .same-length, ok .word-ok))
+
+returns : tie.Need-returns
+unfolding sensorOutcome sensorAfter
+returns c =
+    let e = refused-anyhow _ _ _ _ _ _ (ap checkSaid (sym (c .before .checked .given .1)) ∙ c .before .before .before .check .ensures) in
+    (e, left-refused _ _ _ _ e)
+
+same-length : tie.Need-same-length
+same-length c = search needs
+
+returns-2 : tie.Need-returns-2
+unfolding sensorOutcome sensorAfter
+returns-2 c =
+    let m : List ℕ = c .before .before .before .before .before .before .before .before .before .args .m .now in
+    let k : List ℕ = c .before .before .before .before .before .before .before .before .before .args .c .now in
+    let w : ℕ = c .before .before .before .before .before .before .before .before .before .args .word in
+    let l : ℕ = c .before .before .before .before .before .before .before .before .before .args .limit in
+    let ok : Admitted (length m) (length k) w l = admitted (length m) (length k) w l (ap checkSaid (sym (c .before .before .before .before .enum-told .given .1)) ∙ c .before .before .before .before .before .before .check .ensures) in
+    let s : ℕ = syndrome m w in
+    let o = ok .outcome (rowAnswer m s (rowOf m k w l)) in (
+      c .before .before .judge .ensures .0 ∙ sym o,
+      c .before .before .judge .ensures .1 ∙ left-answered m (rowMessage m s (rowOf m k w l)) s (rowOf m k w l)
+          ∙ sym (ap (λ (p : Outcome). left p m (rowMessage m s (rowOf m k w l))) o),
+    )
+
+pub correct-spec : {M : Type 1} → statement M
+correct-spec =
+    tie.close
+    (tie.spec
+    check-requires
+    enum-known-checked
+    enum-told
+    judge-requires
+    returns
+    same-length
+    returns-2)

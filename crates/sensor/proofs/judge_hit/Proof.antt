@@ -1,0 +1,57 @@
+-- `sensor::judge_hit` meets its contract.
+use mathlib.Core.Path.{_≡_, refl, sym, ap, ap₂, _∙_, subst}
+use mathlib.Core.List.{List, [], _∷_}
+use Prim.Native.Nat.{ℕ, suc, _-_, _*_}
+use lib.ListN.{length}
+use borrow.Author.Needs.{needs}
+use Rattle.division.specs.Answers.Outcome.{answer}
+use Rattle.sensor.specs.Verdicts.{rowAnswer, rowMessage, denseAt, highest}
+use Rattle.sensor.specs.Searching.{foundOf}
+use Rattle.sensor.proofs.Rows.{dense-row, sparse-row, sizes, sizes-of}
+use Rattle.sensor.proofs.judge_hit.Statement.{statement}
+use Rattle.sensor.proofs.judge_hit.Tie as tie
+
+highest-dense-requires : tie.Need-highest-dense-requires
+highest-dense-requires c κs = sizes-of _ _ (c .before .before .pre .0) (c .before .before .pre .1 .0)
+
+enum-known-dense : tie.Need-enum-known-dense
+enum-known-dense c = search needs
+
+window-at-requires : tie.Need-window-at-requires
+window-at-requires c κs = sizes _ (c .before .before .before .before .before .before .pre .0)
+
+enum-told : tie.Need-enum-told
+enum-told c = search needs
+
+mend-requires : tie.Need-mend-requires
+mend-requires c κs = search needs
+
+returns : tie.Need-returns
+returns c =
+    let m : List ℕ = c .before .before .before .before .before .before .before .args .m .now in
+    let s : ℕ = c .before .before .before .before .before .before .before .args .s in
+    let e = dense-row (c .before .before .before .before .before .before .before .args .c .now) s (c .before .before .before .before .before .before .before .args .limit) _ (ap foundOf (sym (c .before .before .dense .given .1)) ∙ c .before .before .before .before .highest-dense .ensures) in
+    (ap (λ (w : ℕ). answer 2 (w ∷ [])) (c .window-at .ensures) ∙ ap (rowAnswer m s) e, ap (rowMessage m s) e)
+
+same-length : tie.Need-same-length
+same-length c = search needs
+
+returns-2 : tie.Need-returns-2
+returns-2 c =
+    let m : List ℕ = c .before .before .before .before .before .before .before .before .before .args .m .now in
+    let s : ℕ = c .before .before .before .before .before .before .before .before .before .args .s in
+    let e = sparse-row (c .before .before .before .before .before .before .before .before .before .args .c .now) s (c .before .before .before .before .before .before .before .before .before .args .limit) (ap foundOf (sym (c .before .before .before .before .enum-told .given .1)) ∙ c .before .before .before .before .before .before .highest-dense .ensures) in
+    (c .before .before .mend .ensures .0 ∙ ap (rowAnswer m s) e, c .before .before .mend .ensures .1 ∙ ap (rowMessage m s) e)
+
+pub judge-hit-spec : {M : Type 1} → statement M
+judge-hit-spec =
+    tie.close
+    (tie.spec
+    highest-dense-requires
+    enum-known-dense
+    window-at-requires
+    enum-told
+    mend-requires
+    returns
+    same-length
+    returns-2)
