@@ -3,3 +3,6 @@ pub mod Marks
 pub mod Bits
 pub mod Fits
 pub mod Rows
+pub mod Relation
+pub mod Said
+pub mod Laws

@@ -184,3 +184,48 @@ syndrome-lt m w h = xor-lt 24 (remainder (number m)) w (remainder-lt (number m))
 pub not-zero : (n : ℕ) → (n ≡ 0 → ⊥) → 0 < n
 not-zero zero h = absurd (h refl)
 not-zero (suc n) h = zero-lt-suc n
+
+-- ---- a call that no row refuses
+
+pub unrefused : (m c : List ℕ) (w l : ℕ) → ((n : ℕ) → sensorOutcome m c w l ≡ refusal n → ⊥) → Admitted (length m) (length c) w l
+unfolding sensorOutcome checked
+unrefused m c w l h =
+    let first = tested (isMessageLength (length m)) 1 _ h in
+    let second = tested (eqb (length c) (length m)) 2 _ (first .1) in
+    let third = tested (isWord w) 3 _ (second .1) in
+    let fourth = tested (leb l 24) 4 _ (third .1) in
+    admitted (length m) (length c) w l
+    (passed (isMessageLength (length m)) 1 (answer 0 []) _ (first .0)
+    (passed (eqb (length c) (length m)) 2 (answer 0 []) _ (second .0)
+    (passed (isWord w) 3 (answer 0 []) _ (third .0) (passed (leb l 24) 4 (answer 0 []) (answer 0 []) (fourth .0) refl))))
+  where
+    tested : (t : Bool) (i : ℕ) (a : Outcome) → ((n : ℕ) → unless t i a ≡ refusal n → ⊥) → (t ≡ true) × ((n : ℕ) → a ≡ refusal n → ⊥)
+    tested true i a f = (refl, f)
+    tested false i a f = absurd (f i refl)
+
+pub outcome-row : (m c : List ℕ) (w l : ℕ) → Admitted (length m) (length c) w l → sensorOutcome m c w l ≡ rowAnswer m (syndrome m w) (rowOf m c w l)
+unfolding sensorOutcome
+outcome-row m c w l ok = ok .outcome (rowAnswer m (syndrome m w) (rowOf m c w l))
+
+pub after-row : (m c : List ℕ) (w l : ℕ) → Admitted (length m) (length c) w l → sensorAfter m c w l ≡ rowMessage m (syndrome m w) (rowOf m c w l)
+unfolding sensorAfter
+after-row m c w l ok =
+    ap (λ (o : Outcome). left o m (rowMessage m (syndrome m w) (rowOf m c w l))) (outcome-row m c w l ok)
+    ∙ sym (left-answered m (rowMessage m (syndrome m w) (rowOf m c w l)) (syndrome m w) (rowOf m c w l))
+
+-- a call that was refused leaves the message
+pub after-refused : (m c : List ℕ) (w l n : ℕ) → sensorOutcome m c w l ≡ refusal n → sensorAfter m c w l ≡ m
+unfolding sensorAfter
+after-refused m c w l n e = ap (λ (o : Outcome). left o m (rowMessage m (syndrome m w) (rowOf m c w l))) e
+
+-- ---- the row of the fits
+
+pub fits-none : (c : List ℕ) (s : ℕ) → highest (fitsAt c s) (suc (lastWindow c)) ≡ nowhere → noFit ≡ fitsRow c s
+unfolding fitsRow
+fits-none c s e = sym (ap (fitRow (λ (i : ℕ). highest (differsAt c s i) (suc (lastWindow c)))) e)
+
+pub fits-at : (c : List ℕ) (s e : ℕ) (o : Found) → highest (fitsAt c s) (suc (lastWindow c)) ≡ at e → highest (differsAt c s e) (suc (lastWindow c)) ≡ o
+    → corrected e o ≡ fitsRow c s
+unfolding fitsRow
+fits-at c s e o h d =
+    ap (corrected e) (sym d) ∙ sym (ap (fitRow (λ (i : ℕ). highest (differsAt c s i) (suc (lastWindow c)))) h)
