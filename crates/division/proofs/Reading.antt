@@ -11,7 +11,7 @@ use native.Mathlib.Numerals.{add-one}
 use native.Mathlib.Omega.{arith}
 use lib.Dec.{lit<}
 use lib.Arith.{digits-lt, lt-one, le-zero}
-use lib.Pow.{pow-pos, pow-mono, shl-lt, shr-mod, shr-le, split, high, low}
+use lib.Pow.{pow-pos, pow-mono, shr-shr, mod-mod-pow, field as cut, shl-lt, shr-mod, shr-le, split, high, low}
 use lib.Bits.{bitXor, xor-comm, xor-zero-l, xor-zero-r, xor-lt, xor-shr, xor-mod, xor-shifted}
 use Rattle.division.specs.Polynomial.{product}
 use Rattle.division.specs.Division.{generator, quotient, remainder, parity, shiftIn, overlay, addressRead, ReadsAs}
@@ -144,6 +144,33 @@ overlay-read r h =
     ∙ xor-shifted r 24 (remainder (r * 2 ^ 24)) (remainder-lt (r * 2 ^ 24)))
     ∙ ap (λ (n : ℕ). n % 2 ^ 24) (high r 24 (remainder-lt (r * 2 ^ 24)))
     ∙ mod-eq-of-lt h
+
+-- the remainder is the overlay of the address read
+pub remainder-by-address : (u : ℕ) → remainder u ≡ overlay (addressRead u)
+remainder-by-address u = sym (ap overlay (addressRead-remainder u) ∙ overlay-read (remainder u) (remainder-lt u))
+
+-- ---- the definitions as equations
+
+pub parity-is : (m : ℕ) → parity m ≡ remainder (m * 2 ^ 24)
+unfolding parity
+parity-is m = refl
+
+-- coefficient j of the overlay is coefficient 24 + j of A·G
+pub overlay-coefficient : (a j : ℕ) → j < 24 → overlay a / 2 ^ j % 2 ≡ product a generator / 2 ^ (24 + j) % 2
+unfolding overlay
+overlay-coefficient a j h =
+    ap (λ (n : ℕ). n % 2) (ap (λ (k : ℕ). p / 2 ^ 24 % 2 ^ k / 2 ^ j) sum ∙ cut (p / 2 ^ 24) (24 - j) j)
+    ∙ ap (λ (k : ℕ). p / 2 ^ 24 / 2 ^ j % 2 ^ k % 2) one ∙ mod-mod-pow (p / 2 ^ 24 / 2 ^ j) (23 - j) 1
+    ∙ ap (λ (n : ℕ). n % 2) (shr-shr p 24 j)
+  where
+    p : ℕ
+    p = product a generator
+
+    sum : 24 ≡ 24 - j + j
+    sum = omega arith
+
+    one : 24 - j ≡ 23 - j + 1
+    one = omega arith
 
 -- ---- the quotient and the product, one coefficient at a step, as a machine computes them
 

@@ -1,2 +1,4 @@
 -- The laws of the encoders.
 pub mod Sealing
+pub mod Sealed
+pub mod Laws

@@ -1,2 +1,3 @@
 -- The laws of the transponder.
 pub mod Receiving
+pub mod Laws

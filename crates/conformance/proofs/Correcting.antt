@@ -1,0 +1,277 @@
+-- Demand 3, sentence by sentence: each follows from `ours-is-right` and `only-one-is-right`.
+use mathlib.Core.Path.{_≡_, refl, sym, ap, ap₂, _∙_, subst}
+use mathlib.Core.Logic.{_↔_, _⊎_, inl, inr}
+use mathlib.Core.List.{List, [], _∷_}
+use Prim.Native.Nat.{ℕ, zero, suc, _+_, _-_, _*_, _^_, _<_, _≤_}
+use native.Mathlib.Nat.{lt-of-lt-of-le}
+use native.Mathlib.Omega.{arith}
+use lib.Bits.{bitXor}
+use lib.Count.{ones}
+use lib.ListN.{length}
+use lib.Pow.{pow-mono, shl-lt}
+use Rattle.division.specs.Division.{remainder, parity, overlay}
+use mathlib.Core.Bool.{true}
+use Rattle.division.specs.Message.{number, Bytes, field, isMessageLength, firstBitAgrees}
+use Rattle.division.specs.Answers.{Outcome}
+use Rattle.division.specs.Answers.Outcome.{refusal, answer}
+use Rattle.division.proofs.Laws.{xor-cancel-r, message-length-ge}
+use Rattle.encoder.specs.Seals.{withParity, replySeal, sealOutcome, replyAfter}
+use Rattle.encoder.proofs.Laws.{was-accepted, reply-after, reply-is, reply-lt, sealed-length, sealed-bytes}
+use Rattle.sensor.specs.Changes.{lastWindow, place, Carries, InWindow, OnLow, Fit, lowMarks}
+use Rattle.sensor.specs.Verdicts.{inverted, sensorOutcome, sensorAfter}
+use Rattle.sensor.proofs.Laws.{Admitted, unrefused, after-refused, fit-is, inverted-number, inverted-bytes, inverted-length, inverted-by-number, sizes}
+use Rattle.conformance.specs.Sealing.{Message, ReplyCarries}
+use Rattle.conformance.specs.Correcting.{Call, IsDense, LowestDense, NoneDense, LowestFit, OnlyChange, AnotherChange, Right, OursIsRight, OnlyOneIsRight, SaysClean, SaysDense, SaysNoFit, Correction, Corrects, OthersLeave, HitReply}
+use Rattle.conformance.specs.Correcting.Right.{clean, dense, noFit, sole, several}
+use Rattle.conformance.proofs.Right.{ours-is-right, only-one-is-right}
+use Rattle.conformance.proofs.Sealing.{reply-carries}
+use Rattle.conformance.proofs.Accepting.{hit-differs}
+
+-- answers of different rows differ
+rows : {j k : ℕ} {us vs : List ℕ} → answer j us ≡ answer k vs → j ≡ k
+rows e = cc
+
+module _ (m c : List ℕ) (w l : ℕ) (call : Call m c w l) where
+  O : Outcome
+  O = sensorOutcome m c w l
+
+  right : Right m c w l (sensorOutcome m c w l) (sensorAfter m c w l)
+  unfolding OursIsRight
+  right = ours-is-right m c w l call
+
+  is-right : (o : Outcome) (after : List ℕ) → Right m c w l o after → sensorOutcome m c w l ≡ o
+  unfolding OnlyOneIsRight
+  is-right o after h = sym (only-one-is-right m c w l call o after h .0)
+
+-- ---- clean
+
+pub says-clean : SaysClean
+unfolding SaysClean
+says-clean m c w l call = (there (right m c w l call), λ h. is-right m c w l call (answer 1 []) m (clean h refl refl))
+  where
+    there : Right m c w l (sensorOutcome m c w l) (sensorAfter m c w l) → sensorOutcome m c w l ≡ answer 1 [] → Carries (number m) w
+    there (clean h e i) o = h
+    there (dense n v h e i) o = absurd (omega (arith, rows (sym o ∙ e)))
+    there (noFit n h f e i) o = absurd (omega (arith, rows (sym o ∙ e)))
+    there (sole n h v d f q e i) o = absurd (omega (arith, rows (sym o ∙ e)))
+    there (several n h v d f q e i) o = absurd (omega (arith, rows (sym o ∙ e)))
+
+-- ---- dense
+
+pub says-dense : SaysDense
+unfolding SaysDense LowestDense NoneDense
+says-dense m c w l call n = (
+  (
+    (λ t. (t .0, named (right m c w l call) (t .0) (t .1) .0)),
+    (λ t. some (right m c w l call) (t .0) (t .1)),
+  ),
+  λ v. (named (right m c w l call) v, λ h. is-right m c w l call (answer 2 (v ∷ [])) m (dense n v h refl refl)),
+)
+  where
+    named : Right m c w l (sensorOutcome m c w l) (sensorAfter m c w l) → (v : ℕ) → sensorOutcome m c w l ≡ answer 2 (v ∷ []) → LowestDense c l v
+    named (clean h e i) v o = absurd (n h)
+    named (dense k u h e i) v o =
+        let q : answer 2 (u ∷ []) ≡ answer 2 (v ∷ []) = sym e ∙ o in
+        let same : u ≡ v = cc in
+        subst (LowestDense c l) same h
+    named (noFit k h f e i) v o = absurd (omega (arith, rows (sym o ∙ e)))
+    named (sole k h u d f q e i) v o = absurd (omega (arith, rows (sym o ∙ e)))
+    named (several k h u d f q e i) v o = absurd (omega (arith, rows (sym o ∙ e)))
+
+    some : Right m c w l (sensorOutcome m c w l) (sensorAfter m c w l) → (v : ℕ) → IsDense c l v → (u : ℕ) × (sensorOutcome m c w l ≡ answer 2 (u ∷ []))
+    some (clean h e i) v d = absurd (n h)
+    some (dense k u h e i) v d = (u, e)
+    some (noFit k h f e i) v d = absurd (h v d)
+    some (sole k h u x f q e i) v d = absurd (h v d)
+    some (several k h u x f q e i) v d = absurd (h v d)
+
+-- ---- no fit
+
+pub says-no-fit : SaysNoFit
+unfolding SaysNoFit NoneDense LowestDense LowestFit
+says-no-fit m c w l call n k = (there (right m c w l call), λ h. is-right m c w l call (answer 3 []) m (noFit n k h refl refl))
+  where
+    there : Right m c w l (sensorOutcome m c w l) (sensorAfter m c w l) → sensorOutcome m c w l ≡ answer 3 [] → (v d : ℕ) → Fit m c w v d → ⊥
+    there (clean h e i) o = absurd (n h)
+    there (dense q v h e i) o = absurd (k v (h .0))
+    there (noFit q h f e i) o = f
+    there (sole q h v d f r e i) o = absurd (omega (arith, rows (sym o ∙ e)))
+    there (several q h v d f r e i) o = absurd (omega (arith, rows (sym o ∙ e)))
+
+-- ---- corrected
+
+-- a change of a window is a number of the message's bits
+change-lt : (m c : List ℕ) (w v d : ℕ) → 3 ≤ length m → Fit m c w v d → d < 2 ^ (8 * length m)
+unfolding Fit InWindow
+change-lt m c w v d ge f =
+    subst (λ (x : ℕ). x < 2 ^ (8 * length m)) (sym (f .0 .4))
+    (lt-of-lt-of-le (shl-lt 24 (place m v) (f .0 .3)) (pow-mono {i = 24 + place m v} {j = 8 * length m} (omega arith)))
+
+carried : (m c : List ℕ) (w v d : ℕ) (after : List ℕ) → Bytes m → 3 ≤ length m → Fit m c w v d → after ≡ inverted m d → Carries (number after) w
+unfolding Carries Fit
+carried m c w v d after hm ge f e =
+    ap (λ (t : List ℕ). remainder (number t)) e ∙ ap remainder (inverted-number m d hm (change-lt m c w v d ge f)) ∙ f .2
+
+pub corrects : Corrects
+unfolding Corrects Call NoneDense LowestDense LowestFit OnlyChange AnotherChange
+corrects m c w l call n k v d f = by (right m c w l call)
+  where
+    ok : Admitted (length m) (length c) w l
+    ok = unrefused m c w l (call .2)
+
+    ge : 3 ≤ length m
+    ge = sizes (length m) (ok .length-ok) .0
+
+    by : Right m c w l (sensorOutcome m c w l) (sensorAfter m c w l) → Correction m c w l
+    by (clean h e i) = absurd (n h)
+    by (dense q u h e i) = absurd (k u (h .0))
+    by (noFit q h g e i) = absurd (g v d f)
+    by (sole q h u x g r e i) =
+        record {
+          window = u;
+          change = x;
+          mark = 1;
+          answered = e;
+          fits = g .0;
+          lowest = g .1;
+          only = λ y t. r u y t;
+          applied = i;
+          carries = carried m c w u x (sensorAfter m c w l) (call .0) ge (g .0) i;
+          sole = (λ z. r, λ z. refl);
+          several = (λ z. absurd (omega arith), λ z. absurd (z .3 (r (z .0) (z .1) (z .2))));
+          either = inl refl;
+        }
+    by (several q h u x g r e i) =
+        record {
+          window = u;
+          change = x;
+          mark = 2;
+          answered = e;
+          fits = g .0;
+          lowest = g .1;
+          only = λ y t. fit-is m c w (ok .word-ok) u y t .0 ∙ sym (fit-is m c w (ok .word-ok) u x (g .0) .0);
+          applied = i;
+          carries = carried m c w u x (sensorAfter m c w l) (call .0) ge (g .0) i;
+          sole = (λ z. absurd (omega arith), λ z. absurd (r .3 (z (r .0) (r .1) (r .2))));
+          several = (λ z. r, λ z. refl);
+          either = inr refl;
+        }
+
+-- ---- in every other answer no byte changes
+
+pub others-leave : OthersLeave
+unfolding OthersLeave Call
+others-leave m c w l hm hc h = by (sensorOutcome m c w l) refl
+  where
+    row : (r : ℕ) (vs : List ℕ) → sensorOutcome m c w l ≡ answer r vs → Right m c w l (sensorOutcome m c w l) (sensorAfter m c w l) → sensorAfter m c w l ≡ m
+    row r vs e (clean k f i) = i
+    row r vs e (dense n v k f i) = i
+    row r vs e (noFit n k g f i) = i
+    row r vs e (sole n k v d g q f i) = absurd (h (v ∷ ones d ∷ 1 ∷ []) f)
+    row r vs e (several n k v d g q f i) = absurd (h (v ∷ ones d ∷ 2 ∷ []) f)
+
+    by : (o : Outcome) → sensorOutcome m c w l ≡ o → sensorAfter m c w l ≡ m
+    by (refusal n) e = after-refused m c w l n e
+    by (answer r vs) e =
+        row r vs e
+        (right m c w l (hm, hc, λ n q. let z : refusal n ≡ answer r vs = sym q ∙ e in let bad : _≡_ {A = ℕ} 0 1 = cc in omega arith))
+
+-- ---- a reply that was sealed and hit
+
+module _ (m c : List ℕ) (w l v d : ℕ) (hm : Bytes m) (e : sealOutcome m w ≡ answer 0 []) (b : InWindow (replyAfter m w) v d) where
+  sent : List ℕ
+  sent = replyAfter m w
+
+  hit : List ℕ
+  hit = inverted sent d
+
+  ok-seal : (isMessageLength (length m) ≡ true) × (w < 2 ^ 24) × (firstBitAgrees m ≡ true)
+  ok-seal = was-accepted m w e
+
+  large : 3 ≤ length m
+  large = message-length-ge (length m) (ok-seal .0)
+
+  sent-is : sent ≡ withParity m (bitXor (parity (number (field m))) w)
+  unfolding sent
+  sent-is = reply-after m w e ∙ reply-is m w
+
+  sent-bytes : Bytes sent
+  sent-bytes = subst Bytes (sym sent-is) (sealed-bytes m (bitXor (parity (number (field m))) w) large hm (reply-lt m w (ok-seal .1)))
+
+  sent-length : length sent ≡ length m
+  sent-length = ap length sent-is ∙ sealed-length m (bitXor (parity (number (field m))) w) large
+
+  sent-large : 3 ≤ length sent
+  sent-large = subst (λ (n : ℕ). 3 ≤ n) (sym sent-length) large
+
+  sent-carries : remainder (number sent) ≡ w
+  unfolding sent ReplyCarries Carries Message
+  sent-carries = ap (λ (t : List ℕ). remainder (number t)) (reply-after m w e) ∙ reply-carries m w w (hm, ok-seal .0) (ok-seal .1) .1 refl
+
+  small : d < 2 ^ (8 * length sent)
+  unfolding InWindow sent
+  small =
+      subst (λ (x : ℕ). x < 2 ^ (8 * length sent)) (sym (b .4))
+      (lt-of-lt-of-le (shl-lt 24 (place sent v) (b .3)) (pow-mono {i = 24 + place sent v} {j = 8 * length sent} (omega (arith, sent-large))))
+
+  hit-number : number hit ≡ bitXor (number sent) d
+  unfolding hit
+  hit-number = inverted-number sent d sent-bytes small
+
+  hit-length : length hit ≡ length sent
+  unfolding hit
+  hit-length = inverted-length sent d
+
+  not-clean : Carries (number hit) w → ⊥
+  unfolding Carries hit sent
+  not-clean h = hit-differs sent v d sent-bytes sent-large b (h ∙ sym sent-carries)
+
+  -- the burst itself is a fit
+  undone : OnLow c d → Fit hit c w v d
+  unfolding Fit InWindow Carries hit sent
+  undone low =
+      let lasts : lastWindow hit ≡ lastWindow sent = ap (λ (n : ℕ). 8 * n - 24) hit-length in (
+        (
+          subst (λ (n : ℕ). v ≤ n) (sym lasts) (b .0),
+          b .1,
+          b .2,
+          b .3,
+          b .4 ∙ ap (λ (n : ℕ). b .1 * 2 ^ (n - v)) (sym lasts),
+        ),
+        low,
+        ap (λ (n : ℕ). remainder (bitXor n d)) hit-number ∙ ap remainder (xor-cancel-r (number sent) d) ∙ sent-carries,
+      )
+
+  restored : inverted hit d ≡ sent
+  unfolding hit
+  restored =
+      sym (inverted-by-number sent hit d sent-bytes (inverted-bytes sent d) (sym hit-length) (subst (λ (n : ℕ). d < 2 ^ (8 * n)) (sym hit-length) small)
+      (sym (ap (λ (n : ℕ). bitXor n d) hit-number ∙ xor-cancel-r (number sent) d)))
+
+pub hit-reply : HitReply
+unfolding HitReply SaysClean OnlyChange LowestFit NoneDense hit sent
+hit-reply m c w l v d hm e b low call =
+    (no-fit (right h c w l call), (λ o. not-clean m c w l v d hm e b (says-clean h c w l call .0 o)), λ u n. back (right h c w l call) u n)
+  where
+    h : List ℕ
+    h = inverted (replyAfter m w) d
+
+    fit : Fit h c w v d
+    fit = undone m c w l v d hm e b low
+
+    no-fit : Right h c w l (sensorOutcome h c w l) (sensorAfter h c w l) → sensorOutcome h c w l ≡ answer 3 [] → ⊥
+    no-fit (clean k f i) o = omega (arith, rows (sym o ∙ f))
+    no-fit (dense n x k f i) o = omega (arith, rows (sym o ∙ f))
+    no-fit (noFit n k g f i) o = g v d fit
+    no-fit (sole n k x y g q f i) o = omega (arith, rows (sym o ∙ f))
+    no-fit (several n k x y g q f i) o = omega (arith, rows (sym o ∙ f))
+
+    back : Right h c w l (sensorOutcome h c w l) (sensorAfter h c w l) → (u n : ℕ) → sensorOutcome h c w l ≡ answer 4 (u ∷ n ∷ 1 ∷ []) → sensorAfter h c w l ≡ replyAfter m w
+    back (clean k f i) u n o = absurd (omega (arith, rows (sym o ∙ f)))
+    back (dense z x k f i) u n o = absurd (omega (arith, rows (sym o ∙ f)))
+    back (noFit z k g f i) u n o = absurd (omega (arith, rows (sym o ∙ f)))
+    back (sole z k x y g q f i) u n o = i ∙ ap (inverted h) (sym (q v d fit)) ∙ restored m c w l v d hm e b
+    back (several z k x y g q f i) u n o =
+        let marks : answer 4 (u ∷ n ∷ 1 ∷ []) ≡ answer 4 (x ∷ ones y ∷ 2 ∷ []) = sym o ∙ f in
+        let differ : _≡_ {A = ℕ} 1 2 = cc in
+        absurd (omega arith)

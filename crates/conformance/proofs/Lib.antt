@@ -1,0 +1,5 @@
+-- The theorems, in the order of the demands.
+pub mod Sealing
+pub mod Accepting
+pub mod Right
+pub mod Correcting

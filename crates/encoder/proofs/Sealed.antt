@@ -1,0 +1,96 @@
+-- A sealed message: its length, its field, its parity field and its number.
+use mathlib.Core.Path.{_≡_, refl, sym, ap, ap₂, _∙_, subst}
+use mathlib.Core.Bool.{true}
+use mathlib.Core.List.{List, [], _∷_, _++_}
+use Prim.Native.Nat.{ℕ, zero, suc, _+_, _-_, _*_, _/_, _%_, _^_, _<_, _≤_}
+use native.Mathlib.Omega.{arith}
+use lib.Dec.{lit<}
+use lib.Bits.{bitXor, xor-lt}
+use lib.ListN.{length, take, drop, length-append}
+use lib.Seq.{take-at, drop-at}
+use Rattle.division.specs.Division.{parity, overlay}
+use Rattle.division.specs.Message.{number, Bytes, field, parityField}
+use Rattle.division.specs.Answers.{Outcome}
+use Rattle.division.specs.Answers.Outcome.{refusal, answer}
+use Rattle.division.proofs.Laws.{number-three, number-append, number-message, number-injective, field-is, parityField-is, field-length, parityField-length, parityField-lt, bytes-take, bytes-append, parity-lt, overlay-lt}
+use Rattle.encoder.specs.Seals.{wordBytes, withParity, replyParity, interrogationParity, replySeal, interrogationSeal, sealOutcome, left, replyAfter, interrogationAfter}
+
+-- ---- the bytes of a word
+
+word-number : (p : ℕ) → p < 2 ^ 24 → number (wordBytes p) ≡ p
+unfolding wordBytes
+word-number p h =
+    let whole : p / 2 ^ 16 * 65536 + p / 2 ^ 8 % 2 ^ 8 * 256 + p % 2 ^ 8 ≡ p = omega arith in
+    sym (number-three (p / 2 ^ 16 ∷ p / 2 ^ 8 % 2 ^ 8 ∷ p % 2 ^ 8 ∷ []) refl) ∙ whole
+
+word-length : (p : ℕ) → length (wordBytes p) ≡ 3
+unfolding wordBytes
+word-length p = refl
+
+word-bytes : (p : ℕ) → p < 2 ^ 24 → Bytes (wordBytes p)
+unfolding wordBytes
+word-bytes p h zero = omega arith
+word-bytes p h (suc zero) = omega arith
+word-bytes p h (suc (suc zero)) = omega arith
+word-bytes p h (suc (suc (suc i))) = lit< tt
+
+-- ---- a message with another parity field
+
+module _ (m : List ℕ) (p : ℕ) (h : 3 ≤ length m) where
+  pub sealed-length : length (withParity m p) ≡ length m
+  unfolding withParity
+  sealed-length =
+      length-append (field m) (wordBytes p) ∙ ap₂ (λ (a b : ℕ). a + b) (field-length m h) (word-length p) ∙ omega arith
+
+  at-field : length (field m) ≡ length (withParity m p) - 3
+  at-field = field-length m h ∙ ap (λ (n : ℕ). n - 3) (sym sealed-length)
+
+  pub sealed-field : field (withParity m p) ≡ field m
+  unfolding withParity
+  sealed-field = field-is (withParity m p) ∙ take-at (field m) (wordBytes p) (length (withParity m p) - 3) at-field
+
+  pub sealed-parity : parityField (withParity m p) ≡ wordBytes p
+  unfolding withParity
+  sealed-parity = parityField-is (withParity m p) ∙ drop-at (field m) (wordBytes p) (length (withParity m p) - 3) at-field
+
+  pub sealed-parity-number : p < 2 ^ 24 → number (parityField (withParity m p)) ≡ p
+  sealed-parity-number hp = ap number sealed-parity ∙ word-number p hp
+
+  pub sealed-number : p < 2 ^ 24 → number (withParity m p) ≡ number (field m) * 2 ^ 24 + p
+  unfolding withParity
+  sealed-number hp =
+      number-append (field m) (wordBytes p)
+      ∙ ap₂ (λ (k n : ℕ). number (field m) * 2 ^ (8 * k) + n) (word-length p) (word-number p hp)
+
+  pub sealed-bytes : Bytes m → p < 2 ^ 24 → Bytes (withParity m p)
+  unfolding withParity
+  sealed-bytes hm hp =
+      bytes-append (field m) (wordBytes p) (subst Bytes (sym (field-is m)) (bytes-take (length m - 3) m hm)) (word-bytes p hp)
+
+-- a message is its own field with its own parity field
+pub own-parity : (m : List ℕ) → 3 ≤ length m → Bytes m → m ≡ withParity m (number (parityField m))
+own-parity m h hm =
+    number-injective m (withParity m (number (parityField m))) hm (sealed-bytes m (number (parityField m)) h hm (parityField-lt m h hm))
+    (sym (sealed-length m (number (parityField m)) h))
+    (number-message m h ∙ sym (sealed-number m (number (parityField m)) h (parityField-lt m h hm)))
+
+-- ---- the two seals
+
+pub reply-is : (m : List ℕ) (w : ℕ) → replySeal m w ≡ withParity m (bitXor (parity (number (field m))) w)
+unfolding replySeal replyParity
+reply-is m w = refl
+
+pub interrogation-is : (m : List ℕ) (a : ℕ) → interrogationSeal m a ≡ withParity m (bitXor (parity (number (field m))) (overlay a))
+unfolding interrogationSeal interrogationParity
+interrogation-is m a = refl
+
+pub reply-lt : (m : List ℕ) (w : ℕ) → w < 2 ^ 24 → bitXor (parity (number (field m))) w < 2 ^ 24
+reply-lt m w h = xor-lt 24 (parity (number (field m))) w (parity-lt (number (field m))) h
+
+pub reply-after : (m : List ℕ) (w : ℕ) → sealOutcome m w ≡ answer 0 [] → replyAfter m w ≡ replySeal m w
+unfolding replyAfter
+reply-after m w e = ap (λ (o : Outcome). left o m (replySeal m w)) e
+
+pub interrogation-after : (m : List ℕ) (a : ℕ) → sealOutcome m a ≡ answer 0 [] → interrogationAfter m a ≡ interrogationSeal m a
+unfolding interrogationAfter
+interrogation-after m a e = ap (λ (o : Outcome). left o m (interrogationSeal m a)) e
