@@ -179,10 +179,10 @@ others-leave m c w l hm hc h = by (sensorOutcome m c w l) refl
 -- ---- a reply that was sealed and hit
 
 module _ (m c : List ℕ) (w l v d : ℕ) (hm : Bytes m) (e : sealOutcome m w ≡ answer 0 []) (b : InWindow (replyAfter m w) v d) where
-  sent : List ℕ
+  abbrev pub sent : List ℕ
   sent = replyAfter m w
 
-  hit : List ℕ
+  abbrev pub hit : List ℕ
   hit = inverted sent d
 
   ok-seal : (isMessageLength (length m) ≡ true) × (w < 2 ^ 24) × (firstBitAgrees m ≡ true)
@@ -192,7 +192,6 @@ module _ (m c : List ℕ) (w l v d : ℕ) (hm : Bytes m) (e : sealOutcome m w �
   large = message-length-ge (length m) (ok-seal .0)
 
   sent-is : sent ≡ withParity m (bitXor (parity (number (field m))) w)
-  unfolding sent
   sent-is = reply-after m w e ∙ reply-is m w
 
   sent-bytes : Bytes sent
@@ -205,30 +204,28 @@ module _ (m c : List ℕ) (w l v d : ℕ) (hm : Bytes m) (e : sealOutcome m w �
   sent-large = subst (λ (n : ℕ). 3 ≤ n) (sym sent-length) large
 
   sent-carries : remainder (number sent) ≡ w
-  unfolding sent ReplyCarries Carries Message
+  unfolding ReplyCarries Carries Message
   sent-carries = ap (λ (t : List ℕ). remainder (number t)) (reply-after m w e) ∙ reply-carries m w w (hm, ok-seal .0) (ok-seal .1) .1 refl
 
   small : d < 2 ^ (8 * length sent)
-  unfolding InWindow sent
+  unfolding InWindow
   small =
       subst (λ (x : ℕ). x < 2 ^ (8 * length sent)) (sym (b .4))
       (lt-of-lt-of-le (shl-lt 24 (place sent v) (b .3)) (pow-mono {i = 24 + place sent v} {j = 8 * length sent} (omega (arith, sent-large))))
 
   hit-number : number hit ≡ bitXor (number sent) d
-  unfolding hit
   hit-number = inverted-number sent d sent-bytes small
 
   hit-length : length hit ≡ length sent
-  unfolding hit
   hit-length = inverted-length sent d
 
   not-clean : Carries (number hit) w → ⊥
-  unfolding Carries hit sent
+  unfolding Carries
   not-clean h = hit-differs sent v d sent-bytes sent-large b (h ∙ sym sent-carries)
 
   -- the burst itself is a fit
-  undone : OnLow c d → Fit hit c w v d
-  unfolding Fit InWindow Carries hit sent
+  pub undone : OnLow c d → Fit hit c w v d
+  unfolding Fit InWindow Carries
   undone low =
       let lasts : lastWindow hit ≡ lastWindow sent = ap (λ (n : ℕ). 8 * n - 24) hit-length in (
         (
@@ -243,13 +240,12 @@ module _ (m c : List ℕ) (w l v d : ℕ) (hm : Bytes m) (e : sealOutcome m w �
       )
 
   restored : inverted hit d ≡ sent
-  unfolding hit
   restored =
       sym (inverted-by-number sent hit d sent-bytes (inverted-bytes sent d) (sym hit-length) (subst (λ (n : ℕ). d < 2 ^ (8 * n)) (sym hit-length) small)
       (sym (ap (λ (n : ℕ). bitXor n d) hit-number ∙ xor-cancel-r (number sent) d)))
 
 pub hit-reply : HitReply
-unfolding HitReply SaysClean OnlyChange LowestFit NoneDense hit sent
+unfolding HitReply SaysClean OnlyChange LowestFit NoneDense
 hit-reply m c w l v d hm e b low call =
     (no-fit (right h c w l call), (λ o. not-clean m c w l v d hm e b (says-clean h c w l call .0 o)), λ u n. back (right h c w l call) u n)
   where

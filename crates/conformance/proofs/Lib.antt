@@ -3,3 +3,5 @@ pub mod Sealing
 pub mod Accepting
 pub mod Right
 pub mod Correcting
+pub mod Bench
+pub mod Instances

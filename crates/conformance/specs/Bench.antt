@@ -1,26 +1,46 @@
--- The bench values of document 01 that are marked P, as rows of one table: what the definitions that the contracts name give,
--- and what document 01 says.
+-- The bench values of document 01 that are marked P, as rows of one table: what the definitions that the contracts name
+-- give, and what document 01 states.
 use Prim.Native.Nat.{ℕ}
 use mathlib.Core.Path.{_≡_}
-use mathlib.Core.List.{List, [], _∷_}
-use lib.ListN.{length}
+use mathlib.Core.List.{List, [], _∷_, map}
 use Rattle.division.specs.Answers.{Outcome, parityAnswer}
-use Rattle.division.specs.Answers.Outcome.{refusal, answer}
+use Rattle.division.specs.Answers.Outcome.{answer}
 use Rattle.division.specs.Message.{number, parityField}
 use Rattle.encoder.specs.Seals.{replyAfter, interrogationAfter}
 use Rattle.transponder.specs.Receptions.{receptionOutcome}
 
--- a row: what is computed, and what document 01 has
 pub record BenchRow : Type 0 where
   pub computed : Outcome
   pub stated : Outcome
 
-word : ℕ → Outcome
+abbrev pub row : Outcome → Outcome → BenchRow
+row c s = record { computed = c; stated = s }
+
+-- a 24-bit word as an answer; the parity field of a message after a call; and 'not ours' with the address read
+abbrev pub word : ℕ → Outcome
 word w = answer 0 (w ∷ [])
 
--- the field of a sealed message, as a word
-sealed : List ℕ → Outcome
-sealed m = answer 0 (number (parityField m) ∷ [])
+abbrev pub parityAfter : List ℕ → Outcome
+parityAfter m = word (number (parityField m))
 
-row : Outcome → Outcome → BenchRow
-row c s = record { computed = c; stated = s }
+abbrev pub notOurs : ℕ → Outcome
+notOurs a = answer 3 (a ∷ [])
+
+unfoldable pub benchTable : List BenchRow
+benchTable =
+    row (parityAnswer (0x00 ∷ 0x00 ∷ 0x00 ∷ 0x00 ∷ [])) (word 0x000000)
+    ∷ row (parityAnswer (0x00 ∷ 0x00 ∷ 0x00 ∷ 0x01 ∷ [])) (word 0xFFF409)
+    ∷ row (parityAnswer (0x00 ∷ 0x00 ∷ 0x00 ∷ 0x02 ∷ [])) (word 0x001C1B)
+    ∷ row (parityAnswer (0x00 ∷ 0x00 ∷ 0x00 ∷ 0x03 ∷ [])) (word 0xFFE812)
+    ∷ row (parityAnswer (0x00 ∷ 0x00 ∷ 0x80 ∷ 0x00 ∷ [])) (word 0xF91024)
+    ∷ row (parityAfter (replyAfter (0x00 ∷ 0x00 ∷ 0x80 ∷ 0x00 ∷ 0x00 ∷ 0x00 ∷ 0x00 ∷ []) 0x123456)) (word 0xEB2472)
+    ∷ row (parityAfter (interrogationAfter (0x00 ∷ 0x00 ∷ 0x00 ∷ 0x00 ∷ 0x00 ∷ 0x00 ∷ 0x00 ∷ []) 0x000002)) (word 0x000003)
+    ∷ row (parityAfter (interrogationAfter (0x00 ∷ 0x00 ∷ 0x00 ∷ 0x00 ∷ 0x00 ∷ 0x00 ∷ 0x00 ∷ []) 0x000003)) (word 0x000002)
+    ∷ row (parityAfter (interrogationAfter (0x00 ∷ 0x00 ∷ 0x00 ∷ 0x00 ∷ 0x00 ∷ 0x00 ∷ 0x00 ∷ []) 0x800000)) (word 0xFFFA04)
+    ∷ row (parityAfter (interrogationAfter (0x00 ∷ 0x00 ∷ 0x00 ∷ 0x00 ∷ 0x00 ∷ 0x00 ∷ 0x00 ∷ []) 0xFFFFFF)) (word 0xAAAC07)
+    ∷ row (receptionOutcome 0x123456 (0x00 ∷ 0x00 ∷ 0x00 ∷ 0x00 ∷ 0x00 ∷ 0x00 ∷ 0x03 ∷ [])) (notOurs 0x000002)
+    ∷ row (receptionOutcome 0x123456 (0x00 ∷ 0x00 ∷ 0x00 ∷ 0x00 ∷ 0xAA ∷ 0xAC ∷ 0x07 ∷ [])) (notOurs 0xFFFFFF)
+    ∷ []
+
+unfoldable pub BenchHolds : Type 0
+BenchHolds = map (λ (r : BenchRow). r .computed) benchTable ≡ map (λ (r : BenchRow). r .stated) benchTable
