@@ -20,7 +20,8 @@ use Rattle.encoder.proofs.Laws.{was-accepted, interrogation-after, interrogatio
 use Rattle.transponder.specs.Receptions.{receptionOutcome, reading}
 use Rattle.transponder.proofs.Laws.{Case, cases, reading-own, reading-all-call, reading-other, Received as Judged, received}
 use Rattle.transponder.proofs.Receiving.Case.{own-case, all-call-case, other-case}
-use Rattle.sensor.specs.Changes.{lastWindow, place, InWindow}
+use Rattle.sensor.specs.Changes.{place}
+use Rattle.conformance.specs.Bursts.{Burst}
 use Rattle.sensor.specs.Verdicts.{inverted}
 use Rattle.sensor.proofs.Laws.{inverted-number}
 use Rattle.conformance.specs.Accepting.{Received, Own, AllCall, NotOurs, BurstNeverOwn}
@@ -127,8 +128,8 @@ own-read own m o = address-law (number m) own (received own m unrefused .own-lt)
     unrefused n e = let q : refusal n ≡ answer 1 [] = sym e ∙ o in let z : _≡_ {A = ℕ} 0 1 = cc in omega arith
 
 -- a pattern placed in a window leaves no remainder only if it is zero
-pub hit-differs : (m : List ℕ) (w d : ℕ) → Bytes m → 3 ≤ length m → InWindow m w d → remainder (number (inverted m d)) ≡ remainder (number m) → ⊥
-unfolding InWindow
+pub hit-differs : (m : List ℕ) (w d : ℕ) → Bytes m → 3 ≤ length m → Burst m w d → remainder (number (inverted m d)) ≡ remainder (number m) → ⊥
+unfolding Burst
 hit-differs m w d hm ge b e =
     lt-irrefl 0 (subst (λ (p : ℕ). 0 < p) (burst-noticed (b .1) (place m w) (b .3) none) (b .2))
   where

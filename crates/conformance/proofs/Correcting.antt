@@ -21,6 +21,7 @@ use Rattle.sensor.specs.Changes.{lastWindow, place, Carries, InWindow, OnLow, F
 use Rattle.sensor.specs.Verdicts.{inverted, sensorOutcome, sensorAfter}
 use Rattle.sensor.proofs.Laws.{Admitted, unrefused, after-refused, fit-is, inverted-number, inverted-bytes, inverted-length, inverted-by-number, sizes}
 use Rattle.conformance.specs.Sealing.{Message, ReplyCarries}
+use Rattle.conformance.specs.Bursts.{Burst}
 use Rattle.conformance.specs.Correcting.{Call, IsDense, LowestDense, NoneDense, LowestFit, OnlyChange, AnotherChange, Right, OursIsRight, OnlyOneIsRight, SaysClean, SaysDense, SaysNoFit, Correction, Corrects, OthersLeave, HitReply}
 use Rattle.conformance.specs.Correcting.Right.{clean, dense, noFit, sole, several}
 use Rattle.conformance.proofs.Right.{ours-is-right, only-one-is-right}
@@ -178,7 +179,7 @@ others-leave m c w l hm hc h = by (sensorOutcome m c w l) refl
 
 -- ---- a reply that was sealed and hit
 
-module _ (m c : List ℕ) (w l v d : ℕ) (hm : Bytes m) (e : sealOutcome m w ≡ answer 0 []) (b : InWindow (replyAfter m w) v d) where
+module _ (m c : List ℕ) (w l v d : ℕ) (hm : Bytes m) (e : sealOutcome m w ≡ answer 0 []) (b : Burst (replyAfter m w) v d) where
   abbrev pub sent : List ℕ
   sent = replyAfter m w
 
@@ -208,7 +209,7 @@ module _ (m c : List ℕ) (w l v d : ℕ) (hm : Bytes m) (e : sealOutcome m w �
   sent-carries = ap (λ (t : List ℕ). remainder (number t)) (reply-after m w e) ∙ reply-carries m w w (hm, ok-seal .0) (ok-seal .1) .1 refl
 
   small : d < 2 ^ (8 * length sent)
-  unfolding InWindow
+  unfolding Burst
   small =
       subst (λ (x : ℕ). x < 2 ^ (8 * length sent)) (sym (b .4))
       (lt-of-lt-of-le (shl-lt 24 (place sent v) (b .3)) (pow-mono {i = 24 + place sent v} {j = 8 * length sent} (omega (arith, sent-large))))
@@ -225,7 +226,7 @@ module _ (m c : List ℕ) (w l v d : ℕ) (hm : Bytes m) (e : sealOutcome m w �
 
   -- the burst itself is a fit
   pub undone : OnLow c d → Fit hit c w v d
-  unfolding Fit InWindow Carries
+  unfolding Fit InWindow Burst Carries
   undone low =
       let lasts : lastWindow hit ≡ lastWindow sent = ap (λ (n : ℕ). 8 * n - 24) hit-length in (
         (

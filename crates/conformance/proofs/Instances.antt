@@ -24,6 +24,7 @@ use Rattle.sensor.specs.Verdicts.{highest, syndrome, candidate, changeAt, dense
 use Rattle.sensor.specs.Verdicts.Row.{clean, dense, noFit, corrected}
 use Rattle.sensor.proofs.Laws.{inverted-bytes, inverted-length}
 use Rattle.conformance.specs.Sealing.{Message}
+use Rattle.conformance.specs.Bursts.{Burst}
 use Rattle.conformance.specs.Accepting.{Received, BurstNeverOwn}
 use Rattle.conformance.specs.Correcting.{Call, IsDense, NoneDense, SaysClean, Correction, Corrects, HitReply}
 use Rattle.conformance.proofs.Accepting.{burst-never-own}
@@ -106,8 +107,8 @@ all-call-met = refl
 
 -- ---- bursts: the last bit of the interrogation, in the last window
 
-burst : InWindow (interrogationAfter empty 0x000002) 32 1
-unfolding InWindow empty polynomial downwards product generator generatorPowers reduce divide remainder parity overlay number field firstBit firstBitAgrees isMessageLength isWord wordBytes withParity interrogationParity interrogationSeal sealOutcome interrogationAfter
+burst : Burst (interrogationAfter empty 0x000002) 32 1
+unfolding Burst empty polynomial downwards product generator generatorPowers reduce divide remainder parity overlay number field firstBit firstBitAgrees isMessageLength isWord wordBytes withParity interrogationParity interrogationSeal sealOutcome interrogationAfter
 burst = (lit≤ tt, 1, lit< tt, lit< tt, refl)
 
 empty-bytes : Bytes empty
@@ -146,12 +147,13 @@ reply-call = admitted-call (inverted (replyAfter unsealed 0x123456) (2 ^ 39)) ma
   where
     seven : length (inverted (replyAfter unsealed 0x123456) (2 ^ 39)) ≡ 7
     seven = inverted-length (replyAfter unsealed 0x123456) (2 ^ 39) ∙ ap length sealed-as-sent ∙ sent-length
+
     seven-marks : length marks ≡ 7
     seven-marks = marks-length
 
 -- the burst of document 01's bench: bit 17, in window 0
-reply-burst : InWindow (replyAfter unsealed 0x123456) 0 (2 ^ 39)
-unfolding InWindow unsealed polynomial downwards generator generatorPowers reduce divide remainder parity number field firstBit firstBitAgrees isMessageLength isWord wordBytes withParity replyParity replySeal sealOutcome replyAfter
+reply-burst : Burst (replyAfter unsealed 0x123456) 0 (2 ^ 39)
+unfolding Burst unsealed polynomial downwards generator generatorPowers reduce divide remainder parity number field firstBit firstBitAgrees isMessageLength isWord wordBytes withParity replyParity replySeal sealOutcome replyAfter
 reply-burst = (lit≤ tt, 128, lit< tt, lit< tt, refl)
 
 reply-marks : OnLow marks (2 ^ 39)
@@ -192,7 +194,7 @@ no-change m w v d f =
 reply-met : (sensorOutcome (inverted (replyAfter unsealed 0x123456) (2 ^ 39)) marks 0x123456 24 ≡ answer 3 [] → ⊥)
     × (sensorOutcome (inverted (replyAfter unsealed 0x123456) (2 ^ 39)) marks 0x123456 24 ≡ answer 1 [] → ⊥)
     × ((u n : ℕ) → sensorOutcome (inverted (replyAfter unsealed 0x123456) (2 ^ 39)) marks 0x123456 24 ≡ answer 4 (u ∷ n ∷ 1 ∷ [])
-      → sensorAfter (inverted (replyAfter unsealed 0x123456) (2 ^ 39)) marks 0x123456 24 ≡ replyAfter unsealed 0x123456)
+    → sensorAfter (inverted (replyAfter unsealed 0x123456) (2 ^ 39)) marks 0x123456 24 ≡ replyAfter unsealed 0x123456)
 unfolding HitReply
 reply-met =
     hit-reply unsealed marks 0x123456 24 0 (2 ^ 39) unsealed-bytes sealed reply-burst reply-marks reply-call

@@ -8,8 +8,8 @@ use Rattle.division.specs.Message.{number, Bytes, formatNumber}
 use Rattle.division.specs.Answers.Outcome.{refusal, answer}
 use Rattle.encoder.specs.Seals.{sealOutcome, interrogationAfter}
 use Rattle.transponder.specs.Receptions.{receptionOutcome}
-use Rattle.sensor.specs.Changes.{InWindow}
 use Rattle.sensor.specs.Verdicts.{inverted}
+use Rattle.conformance.specs.Bursts.{Burst}
 
 -- No row refuses the call.
 unfoldable pub Received : ℕ → List ℕ → Type 0
@@ -34,9 +34,9 @@ NotOurs =
     ↔ ((a < 0x1000000) × ReadsAs (number m) a × (a ≡ own → ⊥) × (a ≡ 0xFFFFFF → formatNumber m ≡ 11 → ⊥))
 
 -- 'Whichever 24 consecutive bits a burst falls in, and whichever of them, one or more, it changes, an interrogation so hit
--- is never accepted as addressed to the transponder it was sealed for.' A burst inverts a nonzero pattern inside one window
--- of a message that the seal, not refused, left so.
+-- is never accepted as addressed to the transponder it was sealed for.' The message
+-- is one that the seal, not refused, left so.
 unfoldable pub BurstNeverOwn : Type 0
 BurstNeverOwn =
-    (m : List ℕ) (a w d : ℕ) → Bytes m → sealOutcome m a ≡ answer 0 [] → InWindow (interrogationAfter m a) w d
+    (m : List ℕ) (a w d : ℕ) → Bytes m → sealOutcome m a ≡ answer 0 [] → Burst (interrogationAfter m a) w d
     → receptionOutcome a (inverted (interrogationAfter m a) d) ≡ answer 1 [] → ⊥

@@ -9,8 +9,9 @@ use Rattle.division.specs.Message.{number, Bytes}
 use Rattle.division.specs.Answers.{Outcome}
 use Rattle.division.specs.Answers.Outcome.{refusal, answer}
 use Rattle.encoder.specs.Seals.{sealOutcome, replyAfter}
-use Rattle.sensor.specs.Changes.{lastWindow, Carries, InWindow, OnLow, Fit, lowMarks}
+use Rattle.sensor.specs.Changes.{lastWindow, Carries, OnLow, Fit, lowMarks}
 use Rattle.sensor.specs.Verdicts.{inverted, sensorOutcome, sensorAfter}
+use Rattle.conformance.specs.Bursts.{Burst}
 
 -- 'Unless a row of the table refuses the call'
 unfoldable pub Call : List ℕ → List ℕ → ℕ → ℕ → Type 0
@@ -108,7 +109,7 @@ OthersLeave =
 unfoldable pub HitReply : Type 0
 HitReply =
     (m c : List ℕ) (w l v d : ℕ) → Bytes m → sealOutcome m w ≡ answer 0 []
-    → InWindow (replyAfter m w) v d → OnLow c d → Call (inverted (replyAfter m w) d) c w l
+    → Burst (replyAfter m w) v d → OnLow c d → Call (inverted (replyAfter m w) d) c w l
     → (sensorOutcome (inverted (replyAfter m w) d) c w l ≡ answer 3 [] → ⊥)
     × (sensorOutcome (inverted (replyAfter m w) d) c w l ≡ answer 1 [] → ⊥)
     × ((u n : ℕ) → sensorOutcome (inverted (replyAfter m w) d) c w l ≡ answer 4 (u ∷ n ∷ 1 ∷ [])

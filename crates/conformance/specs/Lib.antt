@@ -1,5 +1,6 @@
 -- The demands, each sentence as one statement; the theorems that prove them stand in proofs/ under the same names.
 pub mod Sealing
+pub mod Bursts
 pub mod Accepting
 pub mod Correcting
 pub mod Bench

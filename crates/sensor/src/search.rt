@@ -57,9 +57,9 @@ fn dense_at(c: &[u8], limit: u32, place: usize) -> bool
     requires { ⌜ place ≤ lastWindow (now c) ⌝ }
     ensures { λ r. ⌜ r ≡ denseAt (now (c .entry)) limit place ⌝ }
 {
-    let window = c.len() * 8 - 24 - place;
-    let at = window / 8;
-    let offset = (window % 8) as u32;
+    let start = c.len() * 8 - 24 - place;
+    let at = start / 8;
+    let offset = (start % 8) as u32;
     is_dense(&c[at..], offset, limit)
 }
 
@@ -69,17 +69,17 @@ pub(crate) fn all_fits(c: &[u8], syndrome: u32) -> Search
     requires { ⌜ (0 < syndrome) × (syndrome < 2 ^ 24) ⌝ }
     ensures { λ r. ⌜ r ≡ searchTo (now (c .entry)) syndrome (suc (lastWindow (now (c .entry)))) ⌝ }
 {
-    let windows = c.len() * 8 - 23;
+    let count = c.len() * 8 - 23;
     let mut state = Search {
         candidate: syndrome,
         changes: 0,
         place: 0,
         pattern: 0,
     };
-    let mut place: usize = 0;
-    while place < windows {
-        state = visit(state, c, place);
-        place += 1;
+    let mut next: usize = 0;
+    while next < count {
+        state = visit(state, c, next);
+        next += 1;
     }
     state
 }

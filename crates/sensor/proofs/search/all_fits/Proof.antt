@@ -14,17 +14,17 @@ use Rattle.sensor.proofs.search.all_fits.Statement.{statement}
 use Rattle.sensor.proofs.search.all_fits.Tie as tie
 
 abbrev Inv-loop : tie.InvT-loop
-Inv-loop c syndrome windows state₀ place₀ state place =
-    (place ≤ length c * 8 - 23) × (state ≡ searchTo c syndrome place)
+Inv-loop c syndrome count state₀ next₀ state next =
+    (next ≤ length c * 8 - 23) × (state ≡ searchTo c syndrome next)
 
 abbrev μ-loop : tie.MeasureT-loop
-μ-loop c syndrome windows state₀ place₀ state place = length c * 8 - 23 - place
+μ-loop c syndrome count state₀ next₀ state next = length c * 8 - 23 - next
 
-mul-windows : tie.Need-mul-windows Inv-loop μ-loop
-mul-windows c = omega arith
+mul-count : tie.Need-mul-count Inv-loop μ-loop
+mul-count c = omega arith
 
-sub-windows : tie.Need-sub-windows Inv-loop μ-loop
-sub-windows c = omega arith
+sub-count : tie.Need-sub-count Inv-loop μ-loop
+sub-count c = omega arith
 
 loop-holds : tie.Need-loop-holds Inv-loop μ-loop
 loop-holds c = (omega arith, search-start (c .before .args .c .now) (c .before .args .syndrome))
@@ -34,13 +34,13 @@ visit-requires c κs = (
   c .before .before .before .pre .0,
   (
     omega arith,
-    subst (λ (st : Search). Sound st (c .before .loop .place)) (sym (c .before .loop .inv .1))
-        (search-sound (c .before .before .before .args .c .now) (c .before .before .before .args .syndrome) (c .before .loop .place) (c .before .before .before .pre .1 .0) (c .before .before .before .pre .1 .1)),
+    subst (λ (st : Search). Sound st (c .before .loop .next)) (sym (c .before .loop .inv .1))
+        (search-sound (c .before .before .before .args .c .now) (c .before .before .before .args .syndrome) (c .before .loop .next) (c .before .before .before .pre .1 .0) (c .before .before .before .pre .1 .1)),
   ),
 )
 
-add-place : tie.Need-add-place Inv-loop μ-loop
-add-place c = omega arith
+add-next : tie.Need-add-next Inv-loop μ-loop
+add-next c = omega arith
 
 loop-less : tie.Need-loop-less Inv-loop μ-loop
 loop-less c = omega arith
@@ -49,14 +49,14 @@ loop-again : tie.Need-loop-again Inv-loop μ-loop
 loop-again c = (
   omega arith,
   c .visit .ensures
-      ∙ ap (λ (st : Search). visited (c .before .before .before .before .args .c .now) st (c .before .before .loop .place)) (c .before .before .loop .inv .1)
-      ∙ sym (search-next (c .before .before .before .before .args .c .now) (c .before .before .before .before .args .syndrome) (c .before .before .loop .place)),
+      ∙ ap (λ (st : Search). visited (c .before .before .before .before .args .c .now) st (c .before .before .loop .next)) (c .before .before .loop .inv .1)
+      ∙ sym (search-next (c .before .before .before .before .args .c .now) (c .before .before .before .before .args .syndrome) (c .before .before .loop .next)),
 )
 
 returns : tie.Need-returns Inv-loop μ-loop
 returns c =
     let l : List ℕ = c .before .before .before .args .c .now in
-    let all : c .before .loop .place ≡ suc (lastWindow l) = omega arith in
+    let all : c .before .loop .next ≡ suc (lastWindow l) = omega arith in
     c .before .loop .inv .1 ∙ ap (searchTo l (c .before .before .before .args .syndrome)) all
 
 pub all-fits-spec : {M : Type 1} → statement M
@@ -65,11 +65,11 @@ all-fits-spec =
     (tie.spec
     Inv-loop
     μ-loop
-    mul-windows
-    sub-windows
+    mul-count
+    sub-count
     loop-holds
     visit-requires
-    add-place
+    add-next
     loop-less
     loop-again
     returns)

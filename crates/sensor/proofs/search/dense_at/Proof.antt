@@ -14,14 +14,14 @@ use Rattle.sensor.proofs.Marks.{windowAt, window-starts, marks-at}
 use Rattle.sensor.proofs.search.dense_at.Statement.{statement}
 use Rattle.sensor.proofs.search.dense_at.Tie as tie
 
-mul-window : tie.Need-mul-window
-mul-window c = search needs
+mul-start : tie.Need-mul-start
+mul-start c = search needs
 
-sub-window : tie.Need-sub-window
-sub-window c = search needs
+sub-start : tie.Need-sub-start
+sub-start c = search needs
 
-sub-window-2 : tie.Need-sub-window-2
-sub-window-2 c = search needs
+sub-start-2 : tie.Need-sub-start-2
+sub-start-2 c = search needs
 
 cast-offset : tie.Need-cast-offset
 cast-offset c = search needs
@@ -54,9 +54,9 @@ pub dense-at-spec : {M : Type 1} → statement M
 dense-at-spec =
     tie.close
     (tie.spec
-    mul-window
-    sub-window
-    sub-window-2
+    mul-start
+    sub-start
+    sub-start-2
     cast-offset
     sub-is-dense
     part-is-dense-start
