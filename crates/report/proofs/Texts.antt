@@ -1,0 +1,235 @@
+-- The texts that the functions append, put together, and their lengths.
+use mathlib.Core.Path.{_≡_, refl, sym, ap, _∙_, subst}
+use mathlib.Core.List.{List, [], _∷_, _++_, append-assoc, append-nil}
+use Prim.Native.Nat.{ℕ, suc, _+_, _-_, _*_, _<_, _≤_, _^_}
+use native.Mathlib.Omega.{arith}
+use lib.ListN.{length, take, drop, length-append, length-drop}
+use lib.Seq.{length-take-le, drop-drop}
+use lib.Dec.{eqb, leb}
+use borrow.Author.Tests.{le-leb, lt-leb}
+use mathlib.Core.Bool.{Bool, true, false}
+use Rattle.text.specs.Choice.{pick}
+use Rattle.text.specs.Quoted.{ascii}
+use Rattle.text.specs.Lines.{lineFeed, space, before, columns, lines}
+use Rattle.text.specs.Output.{Place, append}
+use Rattle.text.specs.Digits.{hexText, decimalText, bytesOf, hexNumber, decimalNumber}
+use Rattle.text.proofs.Spelling.{decimal-length}
+use Rattle.text.proofs.Parts.{part-from, no-more, picked, passed-over}
+use Rattle.text.proofs.Splitting.{before-le, split-column, whole-column, split-line}
+use Rattle.division.specs.Answers.{Outcome}
+use Rattle.division.specs.Answers.Outcome.{refusal, answer}
+use Rattle.report.specs.Sift.{answerWord, markWord, outcomeColumns, wellFormed, requestColumns, spaced, malformed, answerColumns, answerText, outputLine, outputLines, header, siftOutput}
+use Rattle.report.proofs.Forms.{well-formed-columns, ill-formed-columns}
+
+-- ---- verdicts
+
+pub clean-text : ascii " clean - - -" ≡ spaced (outcomeColumns (answer 1 []))
+unfolding spaced outcomeColumns answerWord
+clean-text = refl
+
+pub nofit-text : ascii " nofit - - -" ≡ spaced (outcomeColumns (answer 3 []))
+unfolding spaced outcomeColumns answerWord
+nofit-text = refl
+
+pub dense-text : (w : ℕ) → ascii " dense " ++ decimalText w ++ ascii " - -" ≡ spaced (outcomeColumns (answer 2 (w ∷ [])))
+unfolding spaced outcomeColumns answerWord
+dense-text w = refl
+
+pub refused-text : (n : ℕ) → ascii " refused " ++ decimalText n ++ ascii " - -" ≡ spaced (outcomeColumns (refusal n))
+unfolding spaced outcomeColumns
+refused-text n = refl
+
+pub corrected-text : (w b m : ℕ)
+    → ascii " corrected " ++ decimalText w ++ (space ∷ []) ++ decimalText b ++ (space ∷ markWord m)
+    ≡ spaced (outcomeColumns (answer 4 (w ∷ b ∷ m ∷ [])))
+unfolding spaced outcomeColumns answerWord
+corrected-text w b m =
+    append-assoc (ascii " corrected " ++ decimalText w ++ (space ∷ [])) (decimalText b) (space ∷ markWord m)
+    ∙ append-assoc (ascii " corrected " ++ decimalText w) (space ∷ []) (decimalText b ++ (space ∷ markWord m))
+    ∙ append-assoc (ascii " corrected ") (decimalText w) (space ∷ (decimalText b ++ (space ∷ markWord m)))
+    ∙ ap (λ (t : List ℕ). ascii " corrected " ++ (decimalText w ++ (space ∷ (decimalText b ++ (space ∷ t))))) (sym (append-nil (markWord m)))
+
+pub sole-text : ascii " sole" ≡ space ∷ markWord 1
+unfolding markWord
+sole-text = refl
+
+pub several-text : ascii " several" ≡ space ∷ markWord 2
+unfolding markWord
+several-text = refl
+
+-- ---- lengths of verdicts, where a number has at most ten digits
+
+markWord-length : (m : ℕ) → length (markWord m) ≤ 7
+unfolding markWord
+markWord-length m = cases (eqb m 1)
+  where
+    cases : (t : Bool) → length (pick t (ascii "sole") (ascii "several")) ≤ 7
+    cases true = omega arith
+    cases false = omega arith
+
+pub number-length : (word : List ℕ) (n : ℕ) → length word ≤ 9 → length (decimalText n) ≤ 10 → length (word ++ decimalText n ++ ascii " - -") ≤ 40
+number-length word n h k =
+    omega (arith, length-append word (decimalText n), length-append (word ++ decimalText n) (ascii " - -"))
+
+pub corrected-length : (w b m : ℕ) → length (decimalText w) ≤ 10 → length (decimalText b) ≤ 10
+    → length (ascii " corrected " ++ decimalText w ++ (space ∷ []) ++ decimalText b ++ (space ∷ markWord m)) ≤ 40
+corrected-length w b m h k =
+    omega (
+      arith,
+      length-append (ascii " corrected ") (decimalText w),
+      length-append (ascii " corrected " ++ decimalText w) (space ∷ []),
+      length-append (ascii " corrected " ++ decimalText w ++ (space ∷ [])) (decimalText b),
+      length-append (ascii " corrected " ++ decimalText w ++ (space ∷ []) ++ decimalText b) (space ∷ markWord m),
+      markWord-length m,
+    )
+
+-- ---- the message after a verdict, and the line feed
+
+spaced-append : (cs ds : List (List ℕ)) → spaced (cs ++ ds) ≡ spaced cs ++ spaced ds
+unfolding spaced
+spaced-append [] ds = refl
+spaced-append (c ∷ cs) ds =
+    ap (λ (t : List ℕ). (space ∷ c) ++ t) (spaced-append cs ds) ∙ sym (append-assoc (space ∷ c) (spaced cs) (spaced ds))
+
+pub message-text : (cs : List (List ℕ)) (t : List ℕ)
+    → spaced cs ++ (space ∷ []) ++ t ++ (lineFeed ∷ []) ≡ spaced (cs ++ t ∷ []) ++ lineFeed ∷ []
+unfolding spaced
+message-text cs t =
+    ap (λ (u : List ℕ). u ++ lineFeed ∷ [])
+    (append-assoc (spaced cs) (space ∷ []) t
+    ∙ ap (λ (u : List ℕ). spaced cs ++ (space ∷ u)) (sym (append-nil t))
+    ∙ sym (spaced-append cs (t ∷ [])))
+
+pub message-length : (v t : List ℕ) → length v ≤ 40 → length t ≤ 28 → length (v ++ (space ∷ []) ++ t ++ (lineFeed ∷ [])) ≤ 70
+message-length v t h k =
+    omega (
+      arith,
+      length-append v (space ∷ []),
+      length-append (v ++ (space ∷ [])) t,
+      length-append (v ++ (space ∷ []) ++ t) (lineFeed ∷ []),
+    )
+
+-- ---- a line's answer
+
+-- the text of a request, its parts replaced by equal ones
+pub same-request : (m m′ c c′ : List ℕ) (w w′ l l′ : ℕ) → m ≡ m′ → c ≡ c′ → w ≡ w′ → l ≡ l′
+    → spaced (requestColumns m c w l) ++ lineFeed ∷ [] ≡ spaced (requestColumns m′ c′ w′ l′) ++ lineFeed ∷ []
+same-request m m′ c c′ w w′ l l′ em ec ew el =
+    ap (λ (x : List ℕ). spaced (requestColumns x c w l) ++ lineFeed ∷ []) em
+    ∙ ap (λ (x : List ℕ). spaced (requestColumns m′ x w l) ++ lineFeed ∷ []) ec
+    ∙ ap (λ (x : ℕ). spaced (requestColumns m′ c′ x l) ++ lineFeed ∷ []) ew
+    ∙ ap (λ (x : ℕ). spaced (requestColumns m′ c′ w′ x) ++ lineFeed ∷ []) el
+
+pub malformed-text : ascii " malformed - - - -\n" ≡ answerText []
+unfolding answerText answerColumns spaced malformed
+malformed-text = refl
+
+pub malformed-length : length (answerText []) ≡ 19
+unfolding answerText answerColumns spaced malformed
+malformed-length = refl
+
+pub well-formed-text : (m c w l : List ℕ) → wellFormed m c w l ≡ true
+    → spaced (requestColumns (bytesOf m) (bytesOf c) (hexNumber w) (decimalNumber l)) ++ lineFeed ∷ [] ≡ answerText (m ∷ c ∷ w ∷ columns l)
+unfolding answerText
+well-formed-text m c w l e = ap (λ (cs : List (List ℕ)). spaced cs ++ lineFeed ∷ []) (sym (well-formed-columns m c w l e))
+
+pub ill-formed-text : (m c w l : List ℕ) → wellFormed m c w l ≡ false → answerText [] ≡ answerText (m ∷ c ∷ w ∷ columns l)
+unfolding answerText answerColumns
+ill-formed-text m c w l e = ap (λ (cs : List (List ℕ)). spaced cs ++ lineFeed ∷ []) (sym (ill-formed-columns m c w l e))
+
+-- one, two and three columns are too few
+pub too-few-1 : (a : List ℕ) → answerText [] ≡ answerText (a ∷ [])
+unfolding answerText answerColumns
+too-few-1 a = refl
+
+pub too-few-2 : (a b : List ℕ) → answerText [] ≡ answerText (a ∷ b ∷ [])
+unfolding answerText answerColumns
+too-few-2 a b = refl
+
+pub too-few-3 : (a b c : List ℕ) → answerText [] ≡ answerText (a ∷ b ∷ c ∷ [])
+unfolding answerText answerColumns
+too-few-3 a b c = refl
+
+-- ---- one column more: F is the text that the columns found so far make with those still to be found, q the place after it
+
+module _ (F : List (List ℕ) → List ℕ) (start q : Place) (s : List ℕ) (k : ℕ) (e : k ≡ length (before space s)) where
+  pub column-found : k < length s → q ≡ append start (F (take k s ∷ columns (take (length s - (k + 1)) (drop (k + 1) s))))
+      → length (F (take k s ∷ columns (take (length s - (k + 1)) (drop (k + 1) s)))) ≤ 19 + 24 * length s
+      → (q ≡ append start (F (columns s))) × (length (F (columns s)) ≤ 19 + 24 * length s)
+  column-found h p b =
+      let split = sym (split-column s k e h) in (
+        p ∙ ap (λ (cs : List (List ℕ)). append start (F cs)) split,
+        subst (λ (cs : List (List ℕ)). length (F cs) ≤ 19 + 24 * length s) split b,
+      )
+
+  pub column-last : length s ≤ k → q ≡ append start (answerText []) → answerText [] ≡ F (s ∷ [])
+      → (q ≡ append start (F (columns s))) × (length (F (columns s)) ≤ 19 + 24 * length s)
+  column-last h p m =
+      let all : answerText [] ≡ F (columns s) = m ∙ ap F (sym (whole-column s k e h)) in
+      (p ∙ ap (append start) all, omega (arith, malformed-length, ap length all))
+
+pub front-short : (s : List ℕ) (k : ℕ) → k < length s → length (take k s) ≤ length s
+front-short s k h = omega (arith, length-take-le k s (omega arith))
+
+pub rest-short : (s : List ℕ) (a : ℕ) → length (take (length s - a) (drop a s)) ≤ length s
+rest-short s a = omega (arith, ap length (part-from s a), length-drop a s)
+
+-- ---- output lines
+
+pub line-length : (n : ℕ) (line : List ℕ) → n ≤ 99999 → length (answerText (columns line)) ≤ 19 + 24 * length line
+    → length (outputLine n line) ≤ 24 * (length line + 1)
+unfolding outputLine
+line-length n line h k =
+    let digits : length (decimalText n) ≤ 5 = decimal-length 4 n (omega arith) in
+    omega (arith, length-append (decimalText n) (answerText (columns line)))
+
+-- the output for what is left of the input: its first line, when the search for the line feed found the place k, and the others
+pub next-line : (input : List ℕ) (at k n : ℕ) → at < length input → k ≡ length (before lineFeed (take (length input - at) (drop at input)))
+    → outputLines n (lines (drop at input))
+    ≡ outputLine n (take k (take (length input - at) (drop at input))) ++ outputLines (n + 1) (lines (drop (at + k + 1) input))
+unfolding outputLines
+next-line input at k n h e =
+    let rest : List ℕ = drop at input in
+    let part : take (length input - at) rest ≡ rest = part-from input at in
+    let some : 0 < length rest = omega (arith, length-drop at input) in
+    let sum : at + (k + 1) ≡ at + k + 1 = omega arith in
+    ap (outputLines n) (split-line rest k (e ∙ ap (λ (l : List ℕ). length (before lineFeed l)) part) some)
+    ∙ ap (λ (l : List ℕ). outputLine n (take k l) ++ outputLines (n + 1) (lines (drop (k + 1) rest))) (sym part)
+    ∙ ap (λ (l : List ℕ). outputLine n (take k (take (length input - at) rest)) ++ outputLines (n + 1) (lines l))
+    (drop-drop (k + 1) at input ∙ ap (λ (j : ℕ). drop j input) sum)
+
+pub no-line : (input : List ℕ) (at n : ℕ) → length input ≤ at → outputLines n (lines (drop at input)) ≡ []
+unfolding outputLines lines
+no-line input at n h = ap (λ (l : List ℕ). outputLines n (lines l)) (no-more input at h)
+
+-- the place found lies within the input
+pub line-within : (input : List ℕ) (at k : ℕ) → at < length input → k ≡ length (before lineFeed (take (length input - at) (drop at input)))
+    → at + k ≤ length input
+line-within input at k h e =
+    omega (arith, before-le lineFeed (take (length input - at) (drop at input)), ap length (part-from input at), length-drop at input)
+
+pub line-taken : (input : List ℕ) (at k : ℕ) → k ≡ length (before lineFeed (take (length input - at) (drop at input)))
+    → k ≡ length (take k (take (length input - at) (drop at input)))
+line-taken input at k e =
+    let rest : List ℕ = take (length input - at) (drop at input) in
+    sym (length-take-le k rest (omega (arith, before-le lineFeed rest)))
+
+-- ---- the whole output
+
+pub output-read : (input : List ℕ) → length input ≤ 65536 → header ++ outputLines 1 (lines input) ≡ siftOutput input
+unfolding siftOutput
+output-read input h =
+    ap (λ (t : List ℕ). header ++ t)
+    (sym (picked (leb (length input) 65536) (outputLines 1 (lines input)) (ascii "too long\n") (le-leb (length input) 65536 h)))
+
+pub output-too-long : (input : List ℕ) → 65536 < length input → header ++ ascii "too long\n" ≡ siftOutput input
+unfolding siftOutput
+output-too-long input h =
+    ap (λ (t : List ℕ). header ++ t)
+    (sym (passed-over (leb (length input) 65536) (outputLines 1 (lines input)) (ascii "too long\n") (lt-leb (length input) 65536 h)))
+
+-- 37 bytes of header, and at most 24 for each of at most 65,537
+pub output-length : (input : List ℕ) → length input ≤ 65536 → length (outputLines 1 (lines input)) ≤ 24 * (length input + 1)
+    → length (siftOutput input) ≤ 1572928
+output-length input h k =
+    omega (arith, ap length (output-read input h), length-append header (outputLines 1 (lines input)))

@@ -1,0 +1,79 @@
+-- `report::columns::after_confidence` meets its contract.
+use mathlib.Core.Path.{_≡_, sym}
+use mathlib.Core.List.{List, _∷_}
+use Prim.Native.Nat.{ℕ, _+_}
+use native.Mathlib.Omega.{arith}
+use lib.ListN.{length}
+use lib.Seq.{length-take-le}
+use Rattle.text.specs.Output.{Place}
+use Rattle.report.specs.Sift.{answerText}
+use Rattle.report.proofs.Texts.{column-found, column-last, front-short, too-few-3}
+use borrow.Author.Needs.{needs}
+use Rattle.report.proofs.columns.after_confidence.Statement.{statement}
+use Rattle.report.proofs.columns.after_confidence.Tie as tie
+
+find-requires : tie.Need-find-requires
+find-requires c κs = tt
+
+add-limit-at : tie.Need-add-limit-at
+add-limit-at c = search needs
+
+slice-aggregate-after-word : tie.Need-slice-aggregate-after-word
+slice-aggregate-after-word c = sym (length-take-le (c .before .before .before .find .result) (c .before .before .before .before .before .before .before .before .args .others .now) (omega arith))
+
+sub-after-word : tie.Need-sub-after-word
+sub-after-word c = search needs
+
+part-after-word-start : tie.Need-part-after-word-start
+part-after-word-start c = search needs
+
+part-after-word-end : tie.Need-part-after-word-end
+part-after-word-end c = search needs
+
+after-word-requires : tie.Need-after-word-requires
+after-word-requires c κs = tt
+
+write-malformed-requires : tie.Need-write-malformed-requires
+write-malformed-requires c κs = tt
+
+same-length : tie.Need-same-length
+same-length c = c .before .before .after-word .kept .0
+
+returns : tie.Need-returns
+returns c =
+    let a = c .before .before .before .before .before .before .before .before .before .before .before .before .args in
+    let found = c .before .before .before .before .before .before .before .find in
+    let next = c .before .before .after-word in
+    let s : List ℕ = a .others .now in
+    column-found (λ (cs : List (List ℕ)). answerText (a .m .now ∷ a .c .now ∷ cs)) (a .out .now, a .taken) (next .last .0, next .result) s (found .result) (found .ensures)
+    (c .before .before .before .before .before .before .if1 .taken) (next .ensures .0)
+    (omega (arith, next .ensures .1, front-short s (found .result) (c .before .before .before .before .before .before .if1 .taken)))
+
+same-length-2 : tie.Need-same-length-2
+same-length-2 c = c .before .before .write-malformed .kept .0
+
+returns-2 : tie.Need-returns-2
+returns-2 c =
+    let a = c .before .before .before .before .before .before .before .before .before .before .args in
+    let found = c .before .before .before .before .before .find in
+    let next = c .before .before .write-malformed in
+    let s : List ℕ = a .others .now in
+    column-last (λ (cs : List (List ℕ)). answerText (a .m .now ∷ a .c .now ∷ cs)) (a .out .now, a .taken) (next .last .0, next .result) s (found .result) (found .ensures)
+    (c .before .before .before .before .if1 .left) (next .ensures) (too-few-3 (a .m .now) (a .c .now) s)
+
+pub after-confidence-spec : {M : Type 1} → statement M
+after-confidence-spec =
+    tie.close
+    (tie.spec
+    find-requires
+    add-limit-at
+    slice-aggregate-after-word
+    sub-after-word
+    part-after-word-start
+    part-after-word-end
+    after-word-requires
+    write-malformed-requires
+    same-length
+    returns
+    same-length-2
+    returns-2)

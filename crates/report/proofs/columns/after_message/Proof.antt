@@ -1,0 +1,79 @@
+-- `report::columns::after_message` meets its contract.
+use mathlib.Core.Path.{_≡_, sym}
+use mathlib.Core.List.{List, _∷_}
+use Prim.Native.Nat.{ℕ, _+_}
+use native.Mathlib.Omega.{arith}
+use lib.ListN.{length}
+use lib.Seq.{length-take-le}
+use Rattle.text.specs.Output.{Place}
+use Rattle.report.specs.Sift.{answerText}
+use Rattle.report.proofs.Texts.{column-found, column-last, rest-short, too-few-2}
+use borrow.Author.Needs.{needs}
+use Rattle.report.proofs.columns.after_message.Statement.{statement}
+use Rattle.report.proofs.columns.after_message.Tie as tie
+
+find-requires : tie.Need-find-requires
+find-requires c κs = tt
+
+add-word-at : tie.Need-add-word-at
+add-word-at c = search needs
+
+slice-aggregate-after-confidence : tie.Need-slice-aggregate-after-confidence
+slice-aggregate-after-confidence c = sym (length-take-le (c .before .before .before .find .result) (c .before .before .before .before .before .before .before .args .others .now) (omega arith))
+
+sub-after-confidence : tie.Need-sub-after-confidence
+sub-after-confidence c = search needs
+
+part-after-confidence-start : tie.Need-part-after-confidence-start
+part-after-confidence-start c = search needs
+
+part-after-confidence-end : tie.Need-part-after-confidence-end
+part-after-confidence-end c = search needs
+
+after-confidence-requires : tie.Need-after-confidence-requires
+after-confidence-requires c κs = tt
+
+write-malformed-requires : tie.Need-write-malformed-requires
+write-malformed-requires c κs = tt
+
+same-length : tie.Need-same-length
+same-length c = c .before .before .after-confidence .kept .0
+
+returns : tie.Need-returns
+returns c =
+    let a = c .before .before .before .before .before .before .before .before .before .before .before .args in
+    let found = c .before .before .before .before .before .before .before .find in
+    let next = c .before .before .after-confidence in
+    let s : List ℕ = a .others .now in
+    column-found (λ (cs : List (List ℕ)). answerText (a .m .now ∷ cs)) (a .out .now, a .taken) (next .last .0, next .result) s (found .result) (found .ensures)
+    (c .before .before .before .before .before .before .if1 .taken) (next .ensures .0)
+    (omega (arith, next .ensures .1, rest-short s (found .result + 1)))
+
+same-length-2 : tie.Need-same-length-2
+same-length-2 c = c .before .before .write-malformed .kept .0
+
+returns-2 : tie.Need-returns-2
+returns-2 c =
+    let a = c .before .before .before .before .before .before .before .before .before .args in
+    let found = c .before .before .before .before .before .find in
+    let next = c .before .before .write-malformed in
+    let s : List ℕ = a .others .now in
+    column-last (λ (cs : List (List ℕ)). answerText (a .m .now ∷ cs)) (a .out .now, a .taken) (next .last .0, next .result) s (found .result) (found .ensures)
+    (c .before .before .before .before .if1 .left) (next .ensures) (too-few-2 (a .m .now) s)
+
+pub after-message-spec : {M : Type 1} → statement M
+after-message-spec =
+    tie.close
+    (tie.spec
+    find-requires
+    add-word-at
+    slice-aggregate-after-confidence
+    sub-after-confidence
+    part-after-confidence-start
+    part-after-confidence-end
+    after-confidence-requires
+    write-malformed-requires
+    same-length
+    returns
+    same-length-2
+    returns-2)

@@ -1,0 +1,79 @@
+-- `report::columns::write_answer` meets its contract.
+use mathlib.Core.Path.{_≡_, sym}
+use mathlib.Core.List.{List, _∷_}
+use Prim.Native.Nat.{ℕ, _+_}
+use native.Mathlib.Omega.{arith}
+use lib.ListN.{length}
+use lib.Seq.{length-take-le}
+use Rattle.text.specs.Output.{Place}
+use Rattle.report.specs.Sift.{answerText}
+use Rattle.report.proofs.Texts.{column-found, column-last, rest-short, too-few-1}
+use borrow.Author.Needs.{needs}
+use Rattle.report.proofs.columns.write_answer.Statement.{statement}
+use Rattle.report.proofs.columns.write_answer.Tie as tie
+
+find-requires : tie.Need-find-requires
+find-requires c κs = tt
+
+add-confidence-at : tie.Need-add-confidence-at
+add-confidence-at c = search needs
+
+slice-aggregate-after-message : tie.Need-slice-aggregate-after-message
+slice-aggregate-after-message c = sym (length-take-le (c .before .before .before .find .result) (c .before .before .before .before .before .before .args .line .now) (omega arith))
+
+sub-after-message : tie.Need-sub-after-message
+sub-after-message c = search needs
+
+part-after-message-start : tie.Need-part-after-message-start
+part-after-message-start c = search needs
+
+part-after-message-end : tie.Need-part-after-message-end
+part-after-message-end c = search needs
+
+after-message-requires : tie.Need-after-message-requires
+after-message-requires c κs = tt
+
+write-malformed-requires : tie.Need-write-malformed-requires
+write-malformed-requires c κs = tt
+
+same-length : tie.Need-same-length
+same-length c = c .before .before .after-message .kept .0
+
+returns : tie.Need-returns
+returns c =
+    let a = c .before .before .before .before .before .before .before .before .before .before .args in
+    let found = c .before .before .before .before .before .before .before .find in
+    let next = c .before .before .after-message in
+    let s : List ℕ = a .line .now in
+    column-found answerText (a .out .now, a .taken) (next .last .0, next .result) s (found .result) (found .ensures)
+    (c .before .before .before .before .before .before .if1 .taken) (next .ensures .0)
+    (omega (arith, next .ensures .1, rest-short s (found .result + 1)))
+
+same-length-2 : tie.Need-same-length-2
+same-length-2 c = c .before .before .write-malformed .kept .0
+
+returns-2 : tie.Need-returns-2
+returns-2 c =
+    let a = c .before .before .before .before .before .before .before .before .args in
+    let found = c .before .before .before .before .before .find in
+    let next = c .before .before .write-malformed in
+    let s : List ℕ = a .line .now in
+    column-last answerText (a .out .now, a .taken) (next .last .0, next .result) s (found .result) (found .ensures)
+    (c .before .before .before .before .if1 .left) (next .ensures) (too-few-1 s)
+
+pub write-answer-spec : {M : Type 1} → statement M
+write-answer-spec =
+    tie.close
+    (tie.spec
+    find-requires
+    add-confidence-at
+    slice-aggregate-after-message
+    sub-after-message
+    part-after-message-start
+    part-after-message-end
+    after-message-requires
+    write-malformed-requires
+    same-length
+    returns
+    same-length-2
+    returns-2)

@@ -1,0 +1,60 @@
+// The answer to a well-formed line: the call of the sensor.
+ghost use Prim.Native.Nat.{_≤_};
+ghost use mathlib.Core.Path.{_≡_};
+ghost use mathlib.Core.Bool.{true};
+ghost use mathlib.Core.List.{[], _∷_, _++_};
+ghost use lib.ListN.{length};
+ghost use Rattle.text.specs.Lines.{lineFeed};
+ghost use Rattle.text.specs.Digits.{bytesOf, hexNumber, decimalNumber};
+ghost use Rattle.text.specs.Output.{append};
+ghost use Rattle.report.specs.Sift.{wellFormed, spaced, requestColumns};
+use crate::verdict::write_verdict;
+
+// Message, confidence, word and limit as texts.
+pub(crate) fn write_request(
+    out: &mut [u8],
+    taken: usize,
+    m: &[u8],
+    c: &[u8],
+    w: &[u8],
+    l: &[u8],
+) -> usize
+    requires { ⌜ wellFormed (now m) (now c) (now w) (now l) ≡ true ⌝ }
+    ensures { λ r. ⌜ (now (out .exit), r) ≡ append (now (out .entry), taken) (spaced (requestColumns (bytesOf (now (m .entry))) (bytesOf (now (c .entry))) (hexNumber (now (w .entry))) (decimalNumber (now (l .entry)))) ++ lineFeed ∷ []) ⌝ }
+    ensures { λ r. ⌜ length (spaced (requestColumns (bytesOf (now (m .entry))) (bytesOf (now (c .entry))) (hexNumber (now (w .entry))) (decimalNumber (now (l .entry)))) ++ lineFeed ∷ []) ≤ 70 ⌝ }
+{
+    let mut message = [0u8; 14];
+    let size = text::hex_bytes(m, &mut message);
+    let mut confidence = [0u8; 14];
+    let count = text::hex_bytes(c, &mut confidence);
+    let word = text::hex_number(w);
+    let limit = text::decimal_number(l);
+    write_called(
+        out,
+        taken,
+        &mut message[..size],
+        &confidence[..count],
+        word,
+        limit,
+    )
+}
+
+// The sensor is called; its verdict, and the message after the call.
+fn write_called(
+    out: &mut [u8],
+    taken: usize,
+    message: &mut [u8],
+    confidence: &[u8],
+    word: u32,
+    limit: u32,
+) -> usize
+    requires { ⌜ length (now message) ≤ 14 ⌝ }
+    ensures { λ r. ⌜ (now (out .exit), r) ≡ append (now (out .entry), taken) (spaced (requestColumns (now (message .entry)) (now (confidence .entry)) word limit) ++ lineFeed ∷ []) ⌝ }
+    ensures { λ r. ⌜ length (spaced (requestColumns (now (message .entry)) (now (confidence .entry)) word limit) ++ lineFeed ∷ []) ≤ 70 ⌝ }
+{
+    let verdict = sensor::correct(message, confidence, word, limit);
+    let answered = write_verdict(out, taken, verdict);
+    let gap = text::put_byte(out, answered, 32);
+    let shown = text::put_hex(out, gap, message);
+    text::put_byte(out, shown, 10)
+}

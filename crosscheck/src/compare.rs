@@ -1,0 +1,177 @@
+//! The subcommand `compare`: makes lines, has the reference and the built
+//! program answer them, compares byte for byte, counts the kinds.
+
+use crate::blocks::{pack, special_blocks, Aim, Block, Made, INPUTS};
+use crate::random::Random;
+use crate::run::{first_difference, run};
+use crate::tally::Tally;
+use crate::{calls, calls_kinds, calls_lines, fast_calls, fast_sift, selftest};
+use crate::{sift, sift_kinds, sift_lines};
+use std::path::Path;
+use std::time::Instant;
+
+/// Each program gets at least this many made lines.
+const LEAST_LINES: usize = 200_000;
+
+/// Rounds of lines go on until every kind is met, but not for ever.
+const MOST_ROUNDS: usize = 1000;
+
+/// So many rounds are packed into inputs together.
+const ROUNDS_TOGETHER: usize = 10;
+
+const SEED: u64 = 0x01FF_F409;
+
+/// The expected output of an input whose lines were made for these aims; the
+/// lines are counted in the tally.
+type Expected = fn(&mut Tally, &[u8], &[Option<Aim>]) -> Vec<u8>;
+
+/// What belongs to one of the two programs.
+struct Subject {
+    name: &'static str,
+    any_line: fn(&mut Random) -> Vec<u8>,
+    round: fn(&mut Random) -> Vec<Made>,
+    groups: fn(&[&'static str]) -> Vec<crate::tally::Group>,
+    expected: Expected,
+    /// What the program written for speed answers wrongly.
+    fast_difference: fn(&[u8], &[u8]) -> Option<String>,
+}
+
+const SIFT: Subject = Subject {
+    name: "sift",
+    any_line: sift_lines::any_line,
+    round: sift_lines::round,
+    groups: sift_kinds::groups,
+    expected: |tally, input, aims| {
+        let lines = crate::text::lines(input);
+        sift::output_and_show(input, |k, judged| {
+            sift_kinds::count(tally, lines[k], judged, aims.get(k).and_then(Option::as_ref));
+        })
+    },
+    fast_difference: |input, expected| first_difference(input, expected, &fast_sift::output(input)),
+};
+
+const CALLS: Subject = Subject {
+    name: "calls",
+    any_line: calls_lines::any_line,
+    round: calls_lines::round,
+    groups: calls_kinds::groups,
+    expected: |tally, input, aims| {
+        let lines = crate::text::lines(input);
+        calls::output_and_show(input, |k, judged| {
+            calls_kinds::count(tally, lines[k], judged, aims.get(k).and_then(Option::as_ref));
+        })
+    },
+    fast_difference: |input, _| {
+        let input = selftest::lines_for_fast_calls(input);
+        first_difference(&input, &calls::output(&input), &fast_calls::output(&input))
+    },
+};
+
+/// The state of the comparison with one program.
+struct Comparison<'a> {
+    subject: &'a Subject,
+    program: &'a Path,
+    tally: Tally,
+    lines: usize,
+    inputs: usize,
+    /// The number of inputs answered otherwise, and the first difference.
+    differing: usize,
+    first: Option<String>,
+}
+
+impl Comparison<'_> {
+    fn note(&mut self, who: &str, difference: String) {
+        self.differing += 1;
+        self.first.get_or_insert(format!("{who}: {difference}"));
+    }
+
+    /// Compares the answers to one input; false if the program does not run to
+    /// its end.
+    fn compare(&mut self, block: &Block) -> bool {
+        self.inputs += 1;
+        let expected = (self.subject.expected)(&mut self.tally, &block.bytes, &block.aims);
+        let who = self.program.display().to_string();
+        let output = match run(self.program, &block.bytes, block.feed) {
+            Ok(output) => output,
+            Err(error) => {
+                self.note(&who, format!("{error} (input of {} bytes)", block.bytes.len()));
+                return false;
+            }
+        };
+        if let Some(difference) = first_difference(&block.bytes, &expected, &output) {
+            self.note(&who, difference);
+        }
+        if let Some(difference) = (self.subject.fast_difference)(&block.bytes, &expected) {
+            self.note(&format!("fast_{} (ours)", self.subject.name), difference);
+        }
+        true
+    }
+
+    /// Special inputs first, then rounds of lines until enough are compared and
+    /// every kind is met. A program that differs gets no second batch.
+    fn compare_all(&mut self, random: &mut Random, special: Vec<(&'static str, Block)>) {
+        for (name, block) in special {
+            self.tally.add(INPUTS, name);
+            if !self.compare(&block) {
+                return;
+            }
+        }
+        for _ in 0..MOST_ROUNDS / ROUNDS_TOGETHER {
+            let mut made = Vec::new();
+            for _ in 0..ROUNDS_TOGETHER {
+                made.extend((self.subject.round)(random));
+            }
+            self.lines += made.len();
+            let all_ran = pack(made).iter().all(|block| self.compare(block));
+            let met = self.lines >= LEAST_LINES && self.tally.missing().is_empty();
+            if met || !all_ran || self.differing > 0 {
+                return;
+            }
+        }
+    }
+
+    /// Prints the table and what is wrong; true if nothing is.
+    fn report(&self, seconds: f64) -> bool {
+        println!(
+            "{}: {} lines in {} inputs, {seconds:.1} s",
+            self.subject.name, self.lines, self.inputs
+        );
+        println!("{}", self.tally.table());
+        if let Some(first) = &self.first {
+            println!("{} of {} inputs differ. The first:\n{first}\n", self.differing, self.inputs);
+            return false;
+        }
+        let missing = self.tally.missing();
+        for kind in &missing {
+            println!("not tried: {kind}");
+        }
+        missing.is_empty()
+    }
+}
+
+fn compare_program(subject: &Subject, program: &Path) -> bool {
+    let start = Instant::now();
+    let mut random = Random::new(SEED);
+    let mut for_lines = Random::new(SEED + 1);
+    let special = special_blocks(&mut random, &mut || (subject.any_line)(&mut for_lines));
+    let mut names: Vec<&'static str> = special.iter().map(|input| input.0).collect();
+    names.dedup();
+    let tally = Tally::new((subject.groups)(&names));
+    let (lines, inputs, differing) = (0, 0, 0);
+    let mut comparison =
+        Comparison { subject, program, tally, lines, inputs, differing, first: None };
+    comparison.compare_all(&mut random, special);
+    comparison.report(start.elapsed().as_secs_f64())
+}
+
+/// Compares both programs; true if all is equal and every kind was tried.
+pub fn compare(calls: &Path, sift: &Path) -> Result<bool, String> {
+    println!("{}\n", selftest::published_values()?);
+    let mut equal = compare_program(&SIFT, sift);
+    equal &= compare_program(&CALLS, calls);
+    println!(
+        "{}",
+        if equal { "equal, and every kind was tried" } else { "NOT EQUAL, or not all tried" }
+    );
+    Ok(equal)
+}

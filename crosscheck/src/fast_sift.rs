@@ -1,0 +1,296 @@
+//! `sift` written for speed, as a measure for the built program: whole words in
+//! registers, the remainder by a table of bytes, and in each window the one
+//! candidate, got from the next window's by a step of the syndrome.
+//!
+//! It shares no code with the reference and is compared with it.
+
+use std::io::{Read, Write};
+
+const MOST: usize = 65_536;
+const GENERATOR: u32 = 0x1FF_F409;
+const WORD: u32 = 0xFF_FFFF;
+const HEADER: &[u8] = b"line answer window bits mark message\n";
+
+/// For each byte value b the remainder of b·x^24.
+static REMAINDERS: [u32; 256] = remainders();
+
+/// For each byte its value as a hexadecimal digit, or 255.
+static VALUES: [u8; 256] = values();
+
+/// For each byte value its two digits.
+static PAIRS: [[u8; 2]; 256] = pairs();
+
+const fn remainders() -> [u32; 256] {
+    let mut table = [0; 256];
+    let mut byte = 0;
+    while byte < 256 {
+        let mut rest = (byte as u32) << 16;
+        let mut step = 0;
+        while step < 8 {
+            rest <<= 1;
+            if rest > WORD {
+                rest ^= GENERATOR;
+            }
+            step += 1;
+        }
+        table[byte] = rest;
+        byte += 1;
+    }
+    table
+}
+
+const fn values() -> [u8; 256] {
+    let digits = *b"0123456789ABCDEF";
+    let mut table = [255; 256];
+    let mut value = 0;
+    while value < 16 {
+        table[digits[value] as usize] = value as u8;
+        value += 1;
+    }
+    table
+}
+
+const fn pairs() -> [[u8; 2]; 256] {
+    let digits = *b"0123456789ABCDEF";
+    let mut table = [[0; 2]; 256];
+    let mut byte = 0;
+    while byte < 256 {
+        table[byte] = [digits[byte / 16], digits[byte % 16]];
+        byte += 1;
+    }
+    table
+}
+
+/// A line's columns: bytes from the left of 16, and how many there are.
+struct Request<'a> {
+    digits: &'a [u8],
+    message: [u8; 16],
+    message_bytes: usize,
+    confidence: [u8; 16],
+    confidence_bytes: usize,
+    word: u32,
+    limit: u32,
+}
+
+/// Reads up to 14 pairs of digits that a space follows, 1 at the least: their
+/// bytes, how many, and the rest after the space. With an odd digit or a pair
+/// too many it is a digit that follows, and no space.
+#[inline]
+fn bytes(text: &[u8]) -> Option<([u8; 16], usize, &[u8])> {
+    let mut bytes = [0; 16];
+    let mut count = 0;
+    for (byte, pair) in bytes[..14].iter_mut().zip(text.chunks_exact(2)) {
+        let (high, low) = (VALUES[usize::from(pair[0])], VALUES[usize::from(pair[1])]);
+        if high | low > 15 {
+            break;
+        }
+        *byte = high << 4 | low;
+        count += 1;
+    }
+    match text.get(2 * count) {
+        Some(b' ') if count > 0 => Some((bytes, count, &text[2 * count + 1..])),
+        _ => None,
+    }
+}
+
+/// One or two decimal digits and the end of the line: the number, the rest.
+#[inline]
+fn limit(text: &[u8]) -> Option<(u32, &[u8])> {
+    let value = |digit: u8| digit.is_ascii_digit().then(|| u32::from(digit - b'0'));
+    match *text {
+        [a] => Some((value(a)?, &[])),
+        [a, b'\n', ref rest @ ..] => Some((value(a)?, rest)),
+        [a, b] => Some((10 * value(a)? + value(b)?, &[])),
+        [a, b, b'\n', ref rest @ ..] => Some((10 * value(a)? + value(b)?, rest)),
+        _ => None,
+    }
+}
+
+/// Reads a line at the start of a text: what it asks, and the lines after it.
+#[inline]
+fn read(text: &[u8]) -> Option<(Request<'_>, &[u8])> {
+    let (message, message_bytes, rest) = bytes(text)?;
+    let (confidence, confidence_bytes, rest) = bytes(rest)?;
+    let (word, 3, rest) = bytes(rest)? else {
+        return None;
+    };
+    let (limit, rest) = limit(rest)?;
+    let word = u32::from_be_bytes([0, word[0], word[1], word[2]]);
+    let digits = &text[..2 * message_bytes];
+    let request =
+        Request { digits, message, message_bytes, confidence, confidence_bytes, word, limit };
+    Some((request, rest))
+}
+
+/// The remainder of 7 or 14 bytes: the first three as they stand, then a step
+/// of the table for each more.
+#[inline]
+fn remainder(message: &[u8]) -> u32 {
+    let first = u32::from_be_bytes([0, message[0], message[1], message[2]]);
+    message[3..].iter().fold(first, |rest, byte| {
+        (rest << 8 & WORD | u32::from(*byte)) ^ REMAINDERS[(rest >> 16) as usize]
+    })
+}
+
+/// The number of `count` bytes that stand at the left of 16.
+#[inline]
+fn number_of(bytes: [u8; 16], count: usize) -> u128 {
+    u128::from_be_bytes(bytes) >> (128 - 8 * count)
+}
+
+/// The lowest window with more than `limit` marks. From the first window on the
+/// count loses the bit that leaves and gains the one that enters.
+#[inline]
+fn dense_window(low: u128, windows: u32, limit: u32) -> Option<u32> {
+    if low.count_ones() <= limit {
+        return None;
+    }
+    let mut leaving = low << (105 - windows);
+    let mut entering = leaving << 24;
+    let mut count = ((leaving >> 104) as u32).count_ones();
+    for window in 0..windows {
+        if count > limit {
+            return Some(window);
+        }
+        count += (entering >> 127) as u32;
+        count -= (leaving >> 127) as u32;
+        leaving <<= 1;
+        entering <<= 1;
+    }
+    None
+}
+
+/// The lowest fitting window's place and candidate, and whether another change
+/// fits too. From the last window to the first: the candidate of the window
+/// before is this one divided by x modulo G. An odd candidate does not lie in
+/// the window before, so what fits there is another change.
+#[inline]
+fn fits(low: u128, windows: u32, syndrome: u32) -> Option<(u32, u32, bool)> {
+    let mut candidate = syndrome;
+    let mut found = None;
+    let mut changes = 0;
+    let mut continued = false;
+    let mut marks = low;
+    for place in 0..windows {
+        let odd = candidate & 1;
+        if candidate & !(marks as u32) == 0 {
+            changes += u32::from(!continued);
+            found = Some((place, candidate));
+            continued = odd == 0;
+        } else {
+            continued = false;
+        }
+        candidate = candidate >> 1 ^ (GENERATOR >> 1 & odd.wrapping_neg());
+        marks >>= 1;
+    }
+    found.map(|(place, candidate)| (place, candidate, changes > 1))
+}
+
+/// Writes a number in decimal digits.
+#[inline]
+fn put_number(out: &mut Vec<u8>, number: u32) {
+    let mut digits = [0; 10];
+    let mut at = digits.len();
+    let mut rest = number;
+    loop {
+        at -= 1;
+        digits[at] = b'0' + (rest % 10) as u8;
+        rest /= 10;
+        if rest == 0 {
+            break;
+        }
+    }
+    out.extend_from_slice(&digits[at..]);
+}
+
+fn put_message(out: &mut Vec<u8>, message: u128, bytes: usize) {
+    for byte in &message.to_be_bytes()[16 - bytes..] {
+        out.extend_from_slice(&PAIRS[usize::from(*byte)]);
+    }
+}
+
+fn put_unchanged(out: &mut Vec<u8>, answer: &[u8], value: Option<u32>, request: &Request) {
+    out.extend_from_slice(answer);
+    match value {
+        Some(value) => put_number(out, value),
+        None => out.push(b'-'),
+    }
+    out.extend_from_slice(b" - - ");
+    out.extend_from_slice(request.digits);
+}
+
+fn refusal(request: &Request) -> Option<u32> {
+    if request.message_bytes != 7 && request.message_bytes != 14 {
+        Some(1)
+    } else if request.confidence_bytes != request.message_bytes {
+        Some(2)
+    } else if request.limit > 24 {
+        Some(4)
+    } else {
+        None
+    }
+}
+
+/// Writes the columns after the line number.
+#[inline]
+fn put_answer(out: &mut Vec<u8>, request: &Request) {
+    if let Some(row) = refusal(request) {
+        return put_unchanged(out, b" refused ", Some(row), request);
+    }
+    let bytes = request.message_bytes;
+    let syndrome = remainder(&request.message[..bytes]) ^ request.word;
+    if syndrome == 0 {
+        return put_unchanged(out, b" clean ", None, request);
+    }
+    let low = number_of(request.confidence, bytes);
+    let windows = 8 * bytes as u32 - 23;
+    if let Some(window) = dense_window(low, windows, request.limit) {
+        return put_unchanged(out, b" dense ", Some(window), request);
+    }
+    match fits(low, windows, syndrome) {
+        None => put_unchanged(out, b" nofit ", None, request),
+        Some((place, candidate, several)) => {
+            out.extend_from_slice(b" corrected ");
+            put_number(out, windows - 1 - place);
+            out.push(b' ');
+            put_number(out, candidate.count_ones());
+            out.extend_from_slice(if several { b" several " } else { b" sole " });
+            let mended = number_of(request.message, bytes) ^ u128::from(candidate) << place;
+            put_message(out, mended, bytes);
+        }
+    }
+}
+
+/// The whole output for a whole input.
+pub fn output(input: &[u8]) -> Vec<u8> {
+    let mut out = Vec::with_capacity(64 + 2 * input.len());
+    out.extend_from_slice(HEADER);
+    if input.len() > MOST {
+        out.extend_from_slice(b"too long\n");
+        return out;
+    }
+    let mut rest = input;
+    let mut number = 0;
+    while !rest.is_empty() {
+        number += 1;
+        put_number(&mut out, number);
+        if let Some((request, after)) = read(rest) {
+            put_answer(&mut out, &request);
+            rest = after;
+        } else {
+            out.extend_from_slice(b" malformed - - - -");
+            let end = rest.iter().position(|byte| *byte == b'\n').unwrap_or(rest.len() - 1);
+            rest = &rest[end + 1..];
+        }
+        out.push(b'\n');
+    }
+    out
+}
+
+/// Reads standard input, one byte beyond the most at the most, and answers by
+/// `output` on standard output.
+pub fn serve(output: fn(&[u8]) -> Vec<u8>) -> std::io::Result<()> {
+    let mut input = Vec::with_capacity(MOST + 32);
+    std::io::stdin().lock().take(MOST as u64 + 1).read_to_end(&mut input)?;
+    std::io::stdout().lock().write_all(&output(&input))
+}

@@ -1,0 +1,59 @@
+//! A second, independent implementation of the Mode S parity rules, written
+//! from the scope paper ("document 01") and the Lincoln Laboratory reports
+//! ATC-40, ATC-48, ATC-49 and ATC-117 alone.
+//!
+//! It exists to disagree: it makes very many input lines for the programs
+//! `sift` and `calls`, works out by its own means what they have to print,
+//! and compares byte for byte.
+//!
+//! The reference goes by bit lists, division as taught at school, and a
+//! search for the pattern in each window:
+//! - `poly`: polynomials as bit lists, product and division;
+//! - `rules`: the table of refusals, R, the seals, the transponder;
+//! - `solve`: which of some remainders add up to a given one;
+//! - `sensor`: windows, density, fits, the sensor's answer;
+//! - `text`: what both programs share of their line formats;
+//! - `sift`, `calls`: what each program prints for a whole input;
+//! - `vectors`: published values that the reference itself has to meet.
+//!
+//! The comparison:
+//! - `random`: a small generator of numbers with a fixed seed;
+//! - `defects`: ways to spoil a well-formed line;
+//! - `blocks`: lines packed into inputs, and inputs of special sizes;
+//! - `sift_lines`, `calls_lines`: the makers of lines;
+//! - `tally`, `sift_kinds`, `calls_kinds`: what was tried, and what must be;
+//! - `run`: a program as a child process, and the first difference;
+//! - `compare`: the subcommand that puts these together.
+//!
+//! Beside it:
+//! - `simulate`, `svg`, `picture`, `limit`: what the density limit costs;
+//! - `fast_sift`, `fast_calls`, `speed`: programs written for speed, and the
+//!   measurement against them;
+//! - `selftest`: the checks of this program on itself.
+
+pub mod blocks;
+pub mod calls;
+pub mod calls_kinds;
+pub mod calls_lines;
+pub mod compare;
+pub mod defects;
+pub mod fast_calls;
+pub mod fast_sift;
+pub mod limit;
+pub mod picture;
+pub mod poly;
+pub mod random;
+pub mod rules;
+pub mod run;
+pub mod selftest;
+pub mod sensor;
+pub mod sift;
+pub mod sift_kinds;
+pub mod sift_lines;
+pub mod simulate;
+pub mod solve;
+pub mod speed;
+pub mod svg;
+pub mod tally;
+pub mod text;
+pub mod vectors;

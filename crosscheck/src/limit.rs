@@ -1,0 +1,118 @@
+//! The subcommand `limit`: what the density limit costs. Writes a table in
+//! Markdown and one picture for each message length, from a fixed seed.
+
+use crate::picture::picture;
+use crate::random::Random;
+use crate::simulate::{Counts, Model, Row, CHANGED, REPLY_SHARE, REPLY_SPAN};
+use std::fmt::Write;
+use std::path::Path;
+
+/// Replies for each model and length.
+const REPLIES: u64 = 1_000_000;
+
+const SEED: u64 = 48;
+
+const fn model(name: &'static str, second_burst: f64, marks: [f64; 3]) -> Model {
+    let [miss, near, elsewhere] = marks;
+    Model { name, second_burst, miss, near, elsewhere }
+}
+
+/// The models, with the chances of a missed mark, of a mark on a good bit near
+/// the burst, and of one elsewhere. In the first two no changed bit is missed:
+/// with one burst, 'sole' then has to mean 'as sent'.
+const MODELS: [Model; 5] = [
+    model("one burst, perfect marks", 0.0, [0.0, 0.3, 0.01]),
+    model("one burst, perfect but broad", 0.0, [0.0, 0.6, 0.1]),
+    model("one burst, marks that miss", 0.0, [0.02, 0.3, 0.01]),
+    model("one burst, broad and missing", 0.0, [0.02, 0.6, 0.1]),
+    model("second burst in one of four", 0.25, [0.02, 0.3, 0.01]),
+];
+
+/// The rows of a model under all limits, from 0 to 24. With perfect marks and
+/// one burst nothing may be wrong and sole, without a fit, or clean.
+fn rows(n: usize, model: &Model, seed: u64) -> Vec<Row> {
+    let counts = Counts::simulate(n, model, REPLIES, &mut Random::new(seed));
+    let rows: Vec<Row> = (0..=24).map(|limit| counts.under(limit)).collect();
+    if model.miss == 0.0 && model.second_burst == 0.0 {
+        for row in &rows {
+            assert_eq!(row.sole_wrong, 0, "wrong and sole under perfect marks");
+            assert_eq!(row.no_fit, 0, "no fit under perfect marks");
+            assert_eq!(row.clean, 0, "a single burst is never clean");
+        }
+    }
+    rows
+}
+
+/// The model in words, for the head of the file.
+fn head() -> String {
+    let percent = 100.0 * REPLY_SHARE;
+    format!(
+        "<!-- Made by `crosscheck limit`, seed {SEED}: {REPLIES} replies for each table. -->
+
+The model. A reply is sealed for its word and hit by a burst. The burst spans {REPLY_SPAN} bits in
+{percent:.0} % of the replies (an older transponder's reply) and 1 to 24 bits, each length equally
+often, in the others. It lies anywhere in the message, each place equally often. Each bit of its
+span is changed with probability {CHANGED}, at least one is. A second burst, where there is one, is
+drawn in the same way; a bit that both change is as sent, and two that undo each other are drawn
+anew. The marks: a changed bit lacks its low mark with probability *missed*; a good bit inside the
+span of a burst has one with probability *near*, a good bit elsewhere with probability *elsewhere*.
+
+Each row counts what the sensor says to the {REPLIES} replies under the limit L. *as sent, sole* is
+a mended reply; *wrong, sole* a wrong one reported as certain; *several* is mended by the lowest
+window's fit and marked doubtful, and *of them wrong* counts how often that fit was not what had
+been sent; *clean* is a changed reply that carries the word all the same, which no sensor can
+notice.
+"
+    )
+}
+
+fn table(n: usize, model: &Model, rows: &[Row]) -> String {
+    let mut text = format!(
+        "\n### {n} bits: {}\n\n\
+         missed {}, near {}, elsewhere {}; second burst in {:.0} % of the replies\n\n\
+         | L | as sent, sole | wrong, sole | several | of them wrong | no fit | dense | clean |\n\
+         |--:|--:|--:|--:|--:|--:|--:|--:|\n",
+        model.name,
+        model.miss,
+        model.near,
+        model.elsewhere,
+        100.0 * model.second_burst
+    );
+    for (limit, row) in rows.iter().enumerate() {
+        let _ = writeln!(
+            text,
+            "| {limit} | {} | {} | {} | {} | {} | {} | {} |",
+            row.sole_as_sent,
+            row.sole_wrong,
+            row.several_as_sent + row.several_wrong,
+            row.several_wrong,
+            row.no_fit,
+            row.dense,
+            row.clean
+        );
+    }
+    text
+}
+
+fn write(folder: &Path, name: &str, text: &str) -> Result<(), String> {
+    let path = folder.join(name);
+    std::fs::write(&path, text).map_err(|error| format!("{}: {error}", path.display()))?;
+    println!("{}", path.display());
+    Ok(())
+}
+
+/// Simulates all models at both lengths and writes table and pictures.
+pub fn limit(folder: &Path) -> Result<(), String> {
+    std::fs::create_dir_all(folder).map_err(|error| format!("{}: {error}", folder.display()))?;
+    let mut tables = head();
+    for n in [56, 112] {
+        let mut results = Vec::new();
+        for (index, model) in MODELS.iter().enumerate() {
+            let rows = rows(n, model, SEED + 100 * n as u64 + index as u64);
+            tables += &table(n, model, &rows);
+            results.push((model, rows));
+        }
+        write(folder, &format!("limit-{n}.svg"), &picture(n, REPLIES, &results))?;
+    }
+    write(folder, "limit-table.md", &tables)
+}

@@ -1,0 +1,50 @@
+//! The command line: see `USAGE`.
+
+use crosscheck::{calls, compare, limit, selftest, sift, speed};
+use std::io::{Read, Write};
+use std::path::Path;
+use std::process::ExitCode;
+
+const USAGE: &str = "\
+crosscheck compare CALLS SIFT   compare the built programs with the reference
+crosscheck limit FOLDER         simulate what the density limit costs; table and pictures
+crosscheck speed SIFT CALLS     measure the built programs against programs written for speed
+crosscheck selftest             check the reference and the fast programs
+crosscheck answer sift|calls    answer standard input as the reference does
+";
+
+/// Answers standard input as the named program has to.
+fn answer(name: &str) -> Result<(), String> {
+    let output = match name {
+        "sift" => sift::output,
+        "calls" => calls::output,
+        _ => return Err(USAGE.to_string()),
+    };
+    let mut input = Vec::new();
+    std::io::stdin().read_to_end(&mut input).map_err(|error| error.to_string())?;
+    std::io::stdout().write_all(&output(&input)).map_err(|error| error.to_string())
+}
+
+fn run(arguments: &[&str]) -> Result<bool, String> {
+    match arguments {
+        ["compare", calls, sift] => compare::compare(Path::new(calls), Path::new(sift)),
+        ["limit", folder] => limit::limit(Path::new(folder)).map(|()| true),
+        ["speed", sift, calls] => speed::speed(Path::new(sift), Path::new(calls)).map(|()| true),
+        ["selftest"] => selftest::run_all().map(|()| true),
+        ["answer", name] => answer(name).map(|()| true),
+        _ => Err(USAGE.to_string()),
+    }
+}
+
+fn main() -> ExitCode {
+    let arguments: Vec<String> = std::env::args().skip(1).collect();
+    let arguments: Vec<&str> = arguments.iter().map(String::as_str).collect();
+    match run(&arguments) {
+        Ok(true) => ExitCode::SUCCESS,
+        Ok(false) => ExitCode::FAILURE,
+        Err(message) => {
+            eprintln!("{message}");
+            ExitCode::FAILURE
+        }
+    }
+}

@@ -1,0 +1,184 @@
+//! A program as a child process: an input is fed to it, its standard output is
+//! taken, and the first line that differs from the expected output is shown.
+
+use std::fs::File;
+use std::io::{Read, Write};
+use std::path::{Path, PathBuf};
+use std::process::{Child, ChildStdin, Command, Stdio};
+use std::sync::atomic::{AtomicUsize, Ordering};
+use std::sync::mpsc;
+use std::thread;
+use std::time::Duration;
+
+/// How an input reaches the program's standard input.
+#[derive(Clone, Copy, PartialEq, Eq, Debug)]
+pub enum Feed {
+    /// As a file.
+    File,
+    /// Through a pipe, all at once.
+    Pipe,
+    /// Through a pipe in many small pieces, so that reads come back short.
+    Pieces,
+}
+
+impl Feed {
+    pub const ALL: [Feed; 3] = [Feed::File, Feed::Pipe, Feed::Pieces];
+}
+
+/// Every call ends: a program gets this long for one input.
+const PATIENCE: Duration = Duration::from_secs(30);
+
+/// A file of this process's own in the folder for temporary files, removed
+/// when it is dropped.
+pub struct TemporaryFile {
+    pub path: PathBuf,
+}
+
+impl TemporaryFile {
+    pub fn new(bytes: &[u8]) -> Result<TemporaryFile, String> {
+        static COUNT: AtomicUsize = AtomicUsize::new(0);
+        let count = COUNT.fetch_add(1, Ordering::Relaxed);
+        let file = format!("crosscheck-{}-{count}", std::process::id());
+        let path = std::env::temp_dir().join(file);
+        std::fs::write(&path, bytes).map_err(|error| format!("{}: {error}", path.display()))?;
+        Ok(TemporaryFile { path })
+    }
+
+    pub fn open(&self) -> Result<File, String> {
+        File::open(&self.path).map_err(|error| format!("{}: {error}", self.path.display()))
+    }
+}
+
+impl Drop for TemporaryFile {
+    fn drop(&mut self) {
+        let _ = std::fs::remove_file(&self.path);
+    }
+}
+
+/// The standard output of a program for an input. An error if it cannot be
+/// run, does not end in time, or ends with a status other than 0.
+pub fn run(program: &Path, input: &[u8], feed: Feed) -> Result<Vec<u8>, String> {
+    let file = match feed {
+        Feed::File => Some(TemporaryFile::new(input)?),
+        _ => None,
+    };
+    let stdin = match &file {
+        Some(file) => Stdio::from(file.open()?),
+        None => Stdio::piped(),
+    };
+    let mut child = Command::new(program)
+        .stdin(stdin)
+        .stdout(Stdio::piped())
+        .spawn()
+        .map_err(|error| format!("{}: {error}", program.display()))?;
+    thread::scope(|scope| {
+        if let Some(pipe) = child.stdin.take() {
+            scope.spawn(move || write_all(pipe, input, feed));
+        }
+        let output = collect(&mut child)?;
+        let status = child.wait().map_err(|error| error.to_string())?;
+        if status.success() {
+            Ok(output)
+        } else {
+            Err(format!("{} ended with {status}", program.display()))
+        }
+    })
+}
+
+/// Writes the input. A program may stop reading once the input is too long, so
+/// a broken pipe is no error here: its output tells.
+fn write_all(mut pipe: ChildStdin, input: &[u8], feed: Feed) {
+    let pieces = match feed {
+        Feed::Pieces => input.chunks(1999),
+        _ => input.chunks(input.len().max(1)),
+    };
+    for piece in pieces {
+        if pipe.write_all(piece).is_err() {
+            return;
+        }
+        thread::yield_now();
+    }
+}
+
+/// Reads the child's output to its end, or stops the child.
+fn collect(child: &mut Child) -> Result<Vec<u8>, String> {
+    let mut stdout = child.stdout.take().expect("a pipe");
+    let (sender, receiver) = mpsc::channel();
+    thread::spawn(move || {
+        let mut output = Vec::new();
+        let result = stdout.read_to_end(&mut output).map(|_| output);
+        let _ = sender.send(result);
+    });
+    match receiver.recv_timeout(PATIENCE) {
+        Ok(result) => result.map_err(|error| error.to_string()),
+        Err(_) => {
+            let _ = child.kill();
+            let _ = child.wait();
+            Err(format!("did not end within {} seconds", PATIENCE.as_secs()))
+        }
+    }
+}
+
+/// Where two outputs first differ: nothing if they are equal.
+pub fn first_difference(input: &[u8], ours: &[u8], theirs: &[u8]) -> Option<String> {
+    if ours == theirs {
+        return None;
+    }
+    let our_lines: Vec<&[u8]> = ours.split_inclusive(|byte| *byte == b'\n').collect();
+    let their_lines: Vec<&[u8]> = theirs.split_inclusive(|byte| *byte == b'\n').collect();
+    let most = our_lines.len().max(their_lines.len());
+    let at = (0..most).find(|k| our_lines.get(*k) != their_lines.get(*k))?;
+    let our_line = our_lines.get(at).copied().unwrap_or(b"(nothing)");
+    let first = our_line.split(|byte| *byte == b' ').next().unwrap_or(b"");
+    let number: usize = String::from_utf8_lossy(first).parse().unwrap_or(0);
+    let line = number.checked_sub(1).and_then(|k| crate::text::lines(input).get(k).copied());
+    Some(format!(
+        "output line {} of an input of {} bytes\n  input line: {}\n  ours:       {}\n  theirs:     {}",
+        at + 1,
+        input.len(),
+        line.map_or("(none)".to_string(), shown),
+        shown(our_line),
+        their_lines.get(at).map_or("(nothing)".to_string(), |line| shown(line)),
+    ))
+}
+
+/// Bytes for a reader: printable ASCII as it is, the rest escaped, cut short.
+fn shown(bytes: &[u8]) -> String {
+    let text = bytes.escape_ascii().to_string();
+    if text.len() > 300 {
+        format!("{}.. ({} bytes)", &text[..300], bytes.len())
+    } else {
+        text
+    }
+}
+
+#[cfg(test)]
+mod tests {
+    use super::*;
+
+    #[test]
+    fn a_program_that_copies() {
+        for size in [0, 1, 65_536, 300_000] {
+            let input: Vec<u8> = (0..size).map(|k| k as u8).collect();
+            for feed in Feed::ALL {
+                assert_eq!(run(Path::new("cat"), &input, feed), Ok(input.clone()));
+            }
+        }
+    }
+
+    #[test]
+    fn a_program_that_fails_or_is_not_there() {
+        assert!(run(Path::new("false"), b"", Feed::File).is_err());
+        assert!(run(Path::new("/no/such/program"), b"", Feed::File).is_err());
+    }
+
+    #[test]
+    fn the_difference_shows_all_three() {
+        let shown = first_difference(b"x\ny\n", b"1 a\n2 b\n", b"1 a\n2 c\n").expect("differs");
+        for part in ["output line 2", "input line: y", "2 b", "2 c"] {
+            assert!(shown.contains(part), "{shown}");
+        }
+        assert_eq!(first_difference(b"", b"same", b"same"), None);
+        assert!(first_difference(b"x", b"1 a\n", b"1 a").is_some());
+    }
+}

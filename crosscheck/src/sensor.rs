@@ -1,0 +1,207 @@
+//! Document 01's sensor by search: in each window the pattern confined to
+//! low-confidence bits that makes the message carry the expected word.
+//!
+//! Division is linear: a message with some bits inverted has the message's
+//! remainder plus those of the inverted bits. So a window is asked which of its
+//! low bits' remainders add up to the syndrome (`solve`). The tests invert the
+//! bits and divide the whole message instead, and come to the same.
+
+use crate::poly::*;
+use crate::rules::{above_24_bits, rows_that_apply, wrong_message_length};
+use crate::solve::columns_that_add_up_to;
+
+/// The highest density limit.
+pub const HIGHEST_LIMIT: u32 = 24;
+
+#[derive(Debug, PartialEq, Eq, Clone, Copy)]
+pub enum Mark {
+    Sole,
+    Several,
+}
+
+#[derive(Debug, PartialEq, Eq, Clone, Copy)]
+pub enum Answer {
+    Refused(u8),
+    Clean,
+    Dense { window: usize },
+    NoFit,
+    Corrected { window: usize, ones: usize, mark: Mark },
+}
+
+/// A fit: the window it was found in, and the message bits (from 1) it inverts.
+#[derive(Debug, PartialEq, Eq, Clone)]
+pub struct Fit {
+    pub window: usize,
+    pub bits: Vec<usize>,
+}
+
+/// The answer, the message after the call, and all fits of all windows (none
+/// are looked for where the answer is refused, clean or dense).
+#[derive(Debug)]
+pub struct Verdict {
+    pub answer: Answer,
+    pub message: Vec<u8>,
+    pub fits: Vec<Fit>,
+}
+
+pub fn sensor_rows(message: &[u8], confidence: &[u8], word: u32, limit: u32) -> Vec<u8> {
+    rows_that_apply(&[
+        (1, wrong_message_length(message)),
+        (2, confidence.len() != message.len()),
+        (3, above_24_bits(word)),
+        (4, limit > HIGHEST_LIMIT),
+    ])
+}
+
+/// The windows of an n-bit message: window w covers bits w+1 to w+24.
+pub fn windows(n: usize) -> std::ops::RangeInclusive<usize> {
+    0..=n - DEGREE
+}
+
+/// The low-confidence bits of a window, as message bits from 1.
+pub fn low_bits(low: &[bool], window: usize) -> Vec<usize> {
+    (window + 1..=window + DEGREE).filter(|bit| low[bit - 1]).collect()
+}
+
+/// The highest number of low-confidence bits in a window.
+pub fn densest(low: &[bool]) -> usize {
+    windows(low.len()).map(|window| low_bits(low, window).len()).max().unwrap_or(0)
+}
+
+/// The remainder of a message that is all zeros but for one bit (from 1).
+pub fn remainder_of_bit(n: usize, bit: usize) -> u32 {
+    remainder_of_power(n - bit)
+}
+
+/// The fit of one window, if it has one.
+pub fn fit_in_window(low: &[bool], window: usize, syndrome: u32) -> Option<Fit> {
+    let places = low_bits(low, window);
+    let columns: Vec<u32> = places.iter().map(|bit| remainder_of_bit(low.len(), *bit)).collect();
+    let chosen = columns_that_add_up_to(&columns, syndrome)?;
+    let taken = places.iter().zip(chosen).filter(|(_, chosen)| *chosen);
+    Some(Fit { window, bits: taken.map(|(bit, _)| *bit).collect() })
+}
+
+/// The sensor's answer by the rows of document 01, in their order.
+pub fn sense(message: &[u8], confidence: &[u8], word: u32, limit: u32) -> Verdict {
+    let unchanged = |answer| Verdict { answer, message: message.to_vec(), fits: Vec::new() };
+    if let Some(row) = sensor_rows(message, confidence, word, limit).first() {
+        return unchanged(Answer::Refused(*row));
+    }
+    let received = bits_of_bytes(message);
+    let low = bits_of_bytes(confidence);
+    let syndrome = word_of_bits(&remainder(&received)) ^ word;
+    if syndrome == 0 {
+        return unchanged(Answer::Clean);
+    }
+    let dense = |window: &usize| low_bits(&low, *window).len() > limit as usize;
+    if let Some(window) = windows(low.len()).find(dense) {
+        return unchanged(Answer::Dense { window });
+    }
+    let search = |window| fit_in_window(&low, window, syndrome);
+    let fits: Vec<Fit> = windows(low.len()).filter_map(search).collect();
+    if fits.is_empty() {
+        return unchanged(Answer::NoFit);
+    }
+    let message = invert(&received, &fits[0].bits);
+    assert_eq!(remainder(&message), bits_of_word(word, DEGREE), "the fit makes it carry the word");
+    Verdict { answer: corrected(&fits), message: bytes_of_bits(&message), fits }
+}
+
+/// The answer of a correction by the first of these fits.
+fn corrected(fits: &[Fit]) -> Answer {
+    let same = fits.iter().all(|fit| fit.bits == fits[0].bits);
+    let mark = if same { Mark::Sole } else { Mark::Several };
+    Answer::Corrected { window: fits[0].window, ones: fits[0].bits.len(), mark }
+}
+
+/// The message with some of its bits (from 1) inverted.
+pub fn invert(message: &[bool], bits: &[usize]) -> Bits {
+    let mut changed = message.to_vec();
+    for bit in bits {
+        changed[bit - 1] ^= true;
+    }
+    changed
+}
+
+#[cfg(test)]
+mod tests {
+    use super::*;
+    use crate::random::Random;
+    use crate::rules::with_parity;
+
+    /// The fits by the letter: every nonzero pattern on low bits of a window is
+    /// applied to the message, and the whole is divided.
+    fn fits_by_dividing(message: &[bool], low: &[bool], word: u32) -> Vec<Fit> {
+        let mut fits = Vec::new();
+        for window in windows(low.len()) {
+            let places = low_bits(low, window);
+            for subset in 1u32..1 << places.len() {
+                let taken = |k: &usize| subset >> k & 1 == 1;
+                let bits: Vec<usize> = (0..places.len()).filter(taken).map(|k| places[k]).collect();
+                if word_of_bits(&remainder(&invert(message, &bits))) == word {
+                    fits.push(Fit { window, bits });
+                }
+            }
+        }
+        fits
+    }
+
+    /// Replies with few low marks, most of them hit: the search and the letter
+    /// of the rule find the same.
+    #[test]
+    fn the_search_finds_what_dividing_finds() {
+        let mut random = Random::new(7);
+        for turn in 0..60 {
+            let n = if turn % 2 == 0 { 56 } else { 112 };
+            let field: Bits = (0..n - DEGREE).map(|_| random.one_in(2)).collect();
+            let word = random.word();
+            let window = random.below(n - DEGREE + 1);
+            let ones = random.from_to(1, 5);
+            let hit: Vec<usize> =
+                random.choose(ones, DEGREE).iter().map(|k| window + 1 + k).collect();
+            let message = invert(&with_parity(&field, word), &hit);
+            let mut low = invert(&vec![false; n], &hit);
+            low[random.below(n)] = true;
+            low[random.below(n)] = true;
+            let verdict =
+                sense(&bytes_of_bits(&message), &bytes_of_bits(&low), word, HIGHEST_LIMIT);
+            assert!(!verdict.fits.is_empty());
+            assert_eq!(verdict.fits, fits_by_dividing(&message, &low, word));
+        }
+    }
+
+    /// Demand 3 of a sealed reply hit on low-confidence bits of one window:
+    /// never 'clean', never 'no fit', and as sent when 'sole'.
+    #[test]
+    fn a_sealed_reply_hit_on_low_bits() {
+        let mut random = Random::new(9);
+        for turn in 0..600 {
+            let n = if turn % 2 == 0 { 56 } else { 112 };
+            let field: Bits = (0..n - DEGREE).map(|_| random.one_in(2)).collect();
+            let word = random.word();
+            let sent = with_parity(&field, word);
+            let window = random.below(n - DEGREE + 1);
+            let ones = random.from_to(1, DEGREE);
+            let hit: Vec<usize> =
+                random.choose(ones, DEGREE).iter().map(|k| window + 1 + k).collect();
+            let broad = random.from_to(1, 20);
+            let low: Bits = (1..=n).map(|bit| hit.contains(&bit) || random.one_in(broad)).collect();
+            let limit = random.from_to(ones, DEGREE) as u32;
+            let received = bytes_of_bits(&invert(&sent, &hit));
+            let verdict = sense(&received, &bytes_of_bits(&low), word, limit);
+            match verdict.answer {
+                Answer::Dense { window } => {
+                    assert!(low_bits(&low, window).len() > limit as usize);
+                    assert_eq!(verdict.message, received);
+                }
+                Answer::Corrected { mark: Mark::Sole, ones: count, .. } => {
+                    assert_eq!(verdict.message, bytes_of_bits(&sent));
+                    assert_eq!(count, ones);
+                }
+                Answer::Corrected { mark: Mark::Several, .. } => (),
+                other => panic!("{other:?}"),
+            }
+        }
+    }
+}

@@ -1,0 +1,76 @@
+//! What `sift` has to print for a whole input (document 01, 'The program
+//! sift').
+
+use crate::sensor::{sense, Answer, Mark, Verdict};
+use crate::text::*;
+
+pub const HEADER: &str = "line answer window bits mark message\n";
+
+/// A well-formed line: a call of the sensor.
+#[derive(Debug)]
+pub struct Request {
+    pub message: Vec<u8>,
+    pub confidence: Vec<u8>,
+    pub word: u32,
+    pub limit: u32,
+}
+
+/// What came of a line: nothing if it is malformed.
+pub type Judged = Option<(Request, Verdict)>;
+
+/// Reads a line without its line feed; none if it is malformed.
+pub fn read(line: &[u8]) -> Option<Request> {
+    let columns: Vec<&[u8]> = line.split(|byte| *byte == b' ').collect();
+    let [message, confidence, word, limit] = columns[..] else {
+        return None;
+    };
+    Some(Request {
+        message: hex_bytes(message, 14)?,
+        confidence: hex_bytes(confidence, 14)?,
+        word: hex_number(word, 6, 6)?,
+        limit: limit_number(limit)?,
+    })
+}
+
+/// Reads a line and calls the sensor.
+pub fn judge(line: &[u8]) -> Judged {
+    let request = read(line)?;
+    let verdict = sense(&request.message, &request.confidence, request.word, request.limit);
+    Some((request, verdict))
+}
+
+/// The output line for what came of line `number`.
+pub fn print(number: usize, judged: &Judged) -> String {
+    let Some((_, verdict)) = judged else {
+        return format!("{number} malformed - - - -\n");
+    };
+    let columns = match verdict.answer {
+        Answer::Refused(row) => format!("refused {row} - -"),
+        Answer::Clean => "clean - - -".to_string(),
+        Answer::Dense { window } => format!("dense {window} - -"),
+        Answer::NoFit => "nofit - - -".to_string(),
+        Answer::Corrected { window, ones, mark } => {
+            let mark = if mark == Mark::Sole { "sole" } else { "several" };
+            format!("corrected {window} {ones} {mark}")
+        }
+    };
+    format!("{number} {columns} {}\n", hex(&verdict.message))
+}
+
+/// The whole output for a whole input; `met` is shown each line's outcome.
+pub fn output_and_show(input: &[u8], mut met: impl FnMut(usize, &Judged)) -> Vec<u8> {
+    let mut output = HEADER.to_string();
+    if input.len() > MOST_BYTES {
+        return (output + TOO_LONG).into_bytes();
+    }
+    for (index, line) in lines(input).into_iter().enumerate() {
+        let judged = judge(line);
+        met(index, &judged);
+        output += &print(index + 1, &judged);
+    }
+    output.into_bytes()
+}
+
+pub fn output(input: &[u8]) -> Vec<u8> {
+    output_and_show(input, |_, _| ())
+}

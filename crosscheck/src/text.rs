@@ -1,0 +1,94 @@
+//! What `sift` and `calls` share of their line formats: what a line is, the
+//! digits, and the longest input.
+
+/// An input of more bytes is `too long`.
+pub const MOST_BYTES: usize = 65_536;
+
+/// The whole output, or all of it after a header, for a longer input.
+pub const TOO_LONG: &str = "too long\n";
+
+const DIGITS: &[u8; 16] = b"0123456789ABCDEF";
+
+/// The lines of an input: each ends at a line feed, and a last piece without
+/// one is a line if it has a byte.
+pub fn lines(input: &[u8]) -> Vec<&[u8]> {
+    let mut pieces: Vec<&[u8]> = input.split(|byte| *byte == b'\n').collect();
+    if pieces.last().is_some_and(|last| last.is_empty()) {
+        pieces.pop();
+    }
+    pieces
+}
+
+/// The value of a capital hexadecimal digit.
+pub fn digit_value(digit: u8) -> Option<u32> {
+    DIGITS.iter().position(|known| *known == digit).map(|value| value as u32)
+}
+
+/// A number of `fewest` to `most` capital hexadecimal digits, at most eight.
+pub fn hex_number(text: &[u8], fewest: usize, most: usize) -> Option<u32> {
+    if text.len() < fewest || text.len() > most {
+        return None;
+    }
+    let mut number = 0;
+    for digit in text {
+        number = 16 * number + digit_value(*digit)?;
+    }
+    Some(number)
+}
+
+/// One to `most` bytes in two capital hexadecimal digits each.
+pub fn hex_bytes(text: &[u8], most: usize) -> Option<Vec<u8>> {
+    if text.is_empty() || text.len() > 2 * most {
+        return None;
+    }
+    let byte = |pair: &[u8]| hex_number(pair, 2, 2).map(|value| value as u8);
+    text.chunks(2).map(byte).collect()
+}
+
+/// A number of one or two decimal digits.
+pub fn limit_number(text: &[u8]) -> Option<u32> {
+    let decimal = text.iter().all(|digit| digit.is_ascii_digit());
+    let count = text.len() == 1 || text.len() == 2;
+    (decimal && count)
+        .then(|| text.iter().fold(0, |number, digit| 10 * number + u32::from(digit - b'0')))
+}
+
+/// Bytes as capital hexadecimal digits, nothing for none.
+pub fn hex(bytes: &[u8]) -> String {
+    bytes.iter().map(|byte| format!("{byte:02X}")).collect()
+}
+
+/// The same, with `-` for none.
+pub fn hex_or_dash(bytes: &[u8]) -> String {
+    if bytes.is_empty() {
+        "-".to_string()
+    } else {
+        hex(bytes)
+    }
+}
+
+#[cfg(test)]
+mod tests {
+    use super::*;
+
+    #[test]
+    fn pieces_that_are_lines() {
+        assert_eq!(lines(b"").len(), 0);
+        assert_eq!(lines(b"\n"), [b""]);
+        assert_eq!(lines(b"a\n\nb"), [&b"a"[..], b"", b"b"]);
+        assert_eq!(lines(b"a\n"), [b"a"]);
+    }
+
+    #[test]
+    fn digits() {
+        assert_eq!(hex_bytes(b"0AFF", 2), Some(vec![0x0A, 0xFF]));
+        for bad in [&b""[..], b"0", b"0a", b"0A0", b"0A0B0C", b"0G", b" 0"] {
+            assert_eq!(hex_bytes(bad, 2), None);
+        }
+        assert_eq!(hex_number(b"FFFFFFFF", 1, 8), Some(0xFFFF_FFFF));
+        assert_eq!(limit_number(b"07"), Some(7));
+        for bad in [&b""[..], b"024", b"+1", b"1A", b" 1"] {
+            assert_eq!(limit_number(bad), None);
+        }
+    }
+}
