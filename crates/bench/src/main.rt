@@ -9,11 +9,14 @@
 //     transponder MESSAGE WORD      the answer, and the message then.
 // The sources are
 //     doc01       document 01, the bench values and the examples of the refused calls;
-//     atc40       ATC-40 (source document 003): its tables, its errata sheet, its example and its test patterns;
+//     atc40       ATC-40 (source document 003): the rows of its two tables that can be read without a guess, its errata
+//                 sheet, its example and its test patterns;
 //     published   replies off the air, from the literature on Mode S;
 //     edge        the ends of what a call takes;
 //     chosen      made up for this program;
-//     rows        refused calls that meet the rows of document 01's table whose numbers follow.
+//     rows        refused calls that meet the rows of document 01's table whose numbers follow: the lowest is answered,
+//                 and the message stays. Of a message of another length than 7 or 14 bytes, one whose first bit is 1
+//                 counts as meeting row 5.
 ghost use Prim.Native.Nat.{_+_, _≤_};
 ghost use lib.ListN.{length};
 

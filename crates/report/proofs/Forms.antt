@@ -1,9 +1,8 @@
 -- Well-formed lines: what the tests say of the columns, and the columns of a line that is none.
-use mathlib.Core.Path.{_≡_, refl, sym, ap, _∙_}
+use mathlib.Core.Path.{_≡_, refl, ap, _∙_}
 use mathlib.Core.Bool.{Bool, true, false}
-use mathlib.Core.Logic.{_⊎_, inl, inr}
-use mathlib.Core.List.{List, [], _∷_, _++_}
-use Prim.Native.Nat.{ℕ, suc, _+_, _%_, _<_, _≤_}
+use mathlib.Core.List.{List, [], _∷_}
+use Prim.Native.Nat.{ℕ, suc, _%_, _≤_}
 use native.Mathlib.Omega.{arith}
 use lib.ListN.{length}
 use lib.Dec.{leb, eqb, ltb}
@@ -14,7 +13,7 @@ use Rattle.text.specs.Digits.{isDecimalDigit, allHex, allDecimal, bytesOf, hexN
 use Rattle.text.proofs.Parts.{picked, passed-over, both-left, both-right}
 use Rattle.text.proofs.Splitting.{before-le, first-column, only-column}
 use Rattle.text.proofs.Spelling.{decimal-range, bytesOf-length}
-use Rattle.report.specs.Sift.{isByteString, isWord, isLimit, wellFormed, malformed, requestColumns, answerColumns, answerText}
+use Rattle.report.specs.Sift.{isByteString, isWord, isLimit, wellFormed, malformed, requestColumns, answerColumns}
 
 -- ---- sizes
 

@@ -1,7 +1,7 @@
 -- The texts that the functions append, put together, and their lengths.
 use mathlib.Core.Path.{_≡_, refl, sym, ap, _∙_, subst}
 use mathlib.Core.List.{List, [], _∷_, _++_, append-assoc, append-nil}
-use Prim.Native.Nat.{ℕ, suc, _+_, _-_, _*_, _<_, _≤_, _^_}
+use Prim.Native.Nat.{ℕ, _+_, _-_, _*_, _<_, _≤_}
 use native.Mathlib.Omega.{arith}
 use lib.ListN.{length, take, drop, length-append, length-drop}
 use lib.Seq.{length-take-le, drop-drop}
@@ -12,11 +12,10 @@ use Rattle.text.specs.Choice.{pick}
 use Rattle.text.specs.Quoted.{ascii}
 use Rattle.text.specs.Lines.{lineFeed, space, before, columns, lines}
 use Rattle.text.specs.Output.{Place, append}
-use Rattle.text.specs.Digits.{hexText, decimalText, bytesOf, hexNumber, decimalNumber}
+use Rattle.text.specs.Digits.{decimalText, bytesOf, hexNumber, decimalNumber}
 use Rattle.text.proofs.Spelling.{decimal-length}
 use Rattle.text.proofs.Parts.{part-from, no-more, picked, passed-over}
 use Rattle.text.proofs.Splitting.{before-le, split-column, whole-column, split-line}
-use Rattle.division.specs.Answers.{Outcome}
 use Rattle.division.specs.Answers.Outcome.{refusal, answer}
 use Rattle.report.specs.Sift.{answerWord, markWord, outcomeColumns, wellFormed, requestColumns, spaced, malformed, answerColumns, answerText, outputLine, outputLines, header, siftOutput}
 use Rattle.report.proofs.Forms.{well-formed-columns, ill-formed-columns}

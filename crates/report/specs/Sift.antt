@@ -80,9 +80,13 @@ unfoldable pub spaced : List (List ℕ) → List ℕ
 spaced [] = []
 spaced (c ∷ cs) = space ∷ c ++ spaced cs
 
--- what follows the line's number
+-- columns after the first, and the line feed
+abbrev pub lineEnd : List (List ℕ) → List ℕ
+lineEnd cs = spaced cs ++ lineFeed ∷ []
+
+-- what follows the line's number, from the columns of the line
 unfoldable pub answerText : List (List ℕ) → List ℕ
-answerText cs = spaced (answerColumns cs) ++ lineFeed ∷ []
+answerText cs = lineEnd (answerColumns cs)
 
 unfoldable pub outputLine : ℕ → List ℕ → List ℕ
 outputLine number line = decimalText number ++ answerText (columns line)

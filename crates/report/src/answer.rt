@@ -2,12 +2,10 @@
 ghost use Prim.Native.Nat.{_≤_};
 ghost use mathlib.Core.Path.{_≡_};
 ghost use mathlib.Core.Bool.{true};
-ghost use mathlib.Core.List.{[], _∷_, _++_};
 ghost use lib.ListN.{length};
-ghost use Rattle.text.specs.Lines.{lineFeed};
 ghost use Rattle.text.specs.Digits.{bytesOf, hexNumber, decimalNumber};
 ghost use Rattle.text.specs.Output.{append};
-ghost use Rattle.report.specs.Sift.{wellFormed, spaced, requestColumns};
+ghost use Rattle.report.specs.Sift.{wellFormed, lineEnd, requestColumns};
 use crate::verdict::write_verdict;
 
 // Message, confidence, word and limit as texts.
@@ -20,8 +18,8 @@ pub(crate) fn write_request(
     l: &[u8],
 ) -> usize
     requires { ⌜ wellFormed (now m) (now c) (now w) (now l) ≡ true ⌝ }
-    ensures { λ r. ⌜ (now (out .exit), r) ≡ append (now (out .entry), taken) (spaced (requestColumns (bytesOf (now (m .entry))) (bytesOf (now (c .entry))) (hexNumber (now (w .entry))) (decimalNumber (now (l .entry)))) ++ lineFeed ∷ []) ⌝ }
-    ensures { λ r. ⌜ length (spaced (requestColumns (bytesOf (now (m .entry))) (bytesOf (now (c .entry))) (hexNumber (now (w .entry))) (decimalNumber (now (l .entry)))) ++ lineFeed ∷ []) ≤ 70 ⌝ }
+    ensures { λ r. ⌜ (now (out .exit), r) ≡ append (now (out .entry), taken) (lineEnd (requestColumns (bytesOf (now (m .entry))) (bytesOf (now (c .entry))) (hexNumber (now (w .entry))) (decimalNumber (now (l .entry))))) ⌝ }
+    ensures { λ r. ⌜ length (lineEnd (requestColumns (bytesOf (now (m .entry))) (bytesOf (now (c .entry))) (hexNumber (now (w .entry))) (decimalNumber (now (l .entry))))) ≤ 70 ⌝ }
 {
     let mut message = [0u8; 14];
     let size = text::hex_bytes(m, &mut message);
@@ -49,8 +47,8 @@ fn write_called(
     limit: u32,
 ) -> usize
     requires { ⌜ length (now message) ≤ 14 ⌝ }
-    ensures { λ r. ⌜ (now (out .exit), r) ≡ append (now (out .entry), taken) (spaced (requestColumns (now (message .entry)) (now (confidence .entry)) word limit) ++ lineFeed ∷ []) ⌝ }
-    ensures { λ r. ⌜ length (spaced (requestColumns (now (message .entry)) (now (confidence .entry)) word limit) ++ lineFeed ∷ []) ≤ 70 ⌝ }
+    ensures { λ r. ⌜ (now (out .exit), r) ≡ append (now (out .entry), taken) (lineEnd (requestColumns (now (message .entry)) (now (confidence .entry)) word limit)) ⌝ }
+    ensures { λ r. ⌜ length (lineEnd (requestColumns (now (message .entry)) (now (confidence .entry)) word limit)) ≤ 70 ⌝ }
 {
     let verdict = sensor::correct(message, confidence, word, limit);
     let answered = write_verdict(out, taken, verdict);

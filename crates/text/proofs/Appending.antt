@@ -9,7 +9,6 @@ use lib.ListN.{length, take, drop, set, length-set, length-append}
 use lib.Seq.{sets, sets-eq, take-at}
 use lib.Dec.{ltb}
 use borrow.Author.Tests.{lt-ltb, le-ltb}
-use Rattle.text.specs.Choice.{pick}
 use Rattle.text.specs.Output.{Place, appendByte, append}
 use Rattle.text.proofs.Parts.{picked, passed-over}
 

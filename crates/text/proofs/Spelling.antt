@@ -1,15 +1,15 @@
 -- Digits, and the numbers and bytes that they write.
-use mathlib.Core.Path.{_≡_, refl, sym, ap, ap₂, _∙_, subst}
+use mathlib.Core.Path.{_≡_, refl, sym, ap, _∙_, subst}
 use mathlib.Core.Bool.{Bool, true, false}
 use mathlib.Core.List.{List, [], _∷_, _++_}
 use Prim.Native.Nat.{ℕ, zero, suc, _+_, _-_, _*_, _/_, _%_, _^_, _<_, _≤_}
-use native.Mathlib.Nat.{pow-suc, mod-mod, mod-eq-of-lt, div-add-mod, add-mul, mul-assoc, add-assoc, mul-add-mod-self-left, mul-le-mul-left, mul-le-mul-right, mul-one, one-mul, pow-le-pow-right}
+use native.Mathlib.Nat.{pow-suc, mod-mod, mod-eq-of-lt, div-add-mod, add-mul, mul-assoc, add-assoc, mul-add-mod-self-left, mul-le-mul-left, mul-one, one-mul, pow-le-pow-right}
 use native.Mathlib.Omega.{arith}
-use lib.ListN.{length, getD, take, drop, length-append}
+use lib.ListN.{length, getD, drop, length-append}
 use lib.Dec.{leb, ltb}
-use borrow.Author.Tests.{leb-true, leb-false, ltb-true, ltb-false, lt-ltb, le-ltb, le-leb, lt-leb}
+use borrow.Author.Tests.{leb-true, ltb-true, ltb-false, lt-ltb, le-ltb, le-leb, lt-leb}
 use Rattle.text.specs.Choice.{pick, both, either}
-use Rattle.text.specs.Digits.{hexNumber, decimalNumber, isDecimalDigit, isHexDigit, digitValue, digitOf, allDecimal, allHex, numberAfter, bytesOf, hexText, wordText, decimalWithin, decimalText}
+use Rattle.text.specs.Digits.{hexNumber, decimalNumber, isDecimalDigit, isHexDigit, digitValue, digitOf, allDecimal, allHex, numberAfter, bytesOf, hexText, decimalWithin, decimalText}
 use Rattle.text.proofs.Parts.{picked, passed-over, both-true, both-false, both-left, both-right, next-byte, no-more}
 
 -- ---- one digit

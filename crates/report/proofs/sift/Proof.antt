@@ -7,7 +7,6 @@ use lib.ListN.{length}
 use lib.Seq.{length-take-le}
 use Rattle.text.proofs.Appending.{at-start, taken-le}
 use Rattle.report.specs.Sift.{siftOutput}
-use borrow.Author.Needs.{needs}
 use Rattle.report.proofs.sift.Statement.{statement}
 use Rattle.report.proofs.sift.Tie as tie
 

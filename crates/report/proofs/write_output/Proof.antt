@@ -10,7 +10,6 @@ use Rattle.text.specs.Output.{Place, append}
 use Rattle.text.proofs.Appending.{after}
 use Rattle.report.specs.Sift.{header, outputLines, siftOutput}
 use Rattle.report.proofs.Texts.{output-read, output-too-long, output-length}
-use borrow.Author.Needs.{needs}
 use Rattle.report.proofs.write_output.Statement.{statement}
 use Rattle.report.proofs.write_output.Tie as tie
 

@@ -1,5 +1,5 @@
 -- `report::answer::write_called` meets its contract.
-use mathlib.Core.Path.{_≡_, sym, ap, ap₂, _∙_, subst}
+use mathlib.Core.Path.{_≡_, ap, ap₂, _∙_, subst}
 use mathlib.Core.List.{List, [], _∷_, _++_}
 use Prim.Native.Nat.{ℕ, _≤_}
 use native.Mathlib.Omega.{arith}
@@ -13,7 +13,6 @@ use Rattle.sensor.specs.Verdicts.{said, sensorOutcome, sensorAfter}
 use Rattle.division.specs.Answers.{Outcome}
 use Rattle.report.specs.Sift.{spaced, outcomeColumns, requestColumns}
 use Rattle.report.proofs.Texts.{message-text, message-length}
-use borrow.Author.Needs.{needs}
 use Rattle.report.proofs.answer.write_called.Statement.{statement}
 use Rattle.report.proofs.answer.write_called.Tie as tie
 

@@ -1,18 +1,16 @@
 -- `report::answer::write_request` meets its contract.
 use mathlib.Core.Path.{refl, _≡_, sym, ap, _∙_, subst}
-use mathlib.Core.List.{List, [], _∷_, _++_}
-use Prim.Native.Nat.{ℕ, _≤_, _%_, _^_}
+use mathlib.Core.List.{List}
+use Prim.Native.Nat.{ℕ, _≤_}
 use native.Mathlib.Omega.{arith}
 use lib.ListN.{length, take, replicate}
 use lib.Seq.{length-take-le}
 use Rattle.text.specs.Digits.{bytesOf, hexNumber, decimalNumber}
-use Rattle.text.specs.Output.{Place, append}
+use Rattle.text.specs.Output.{append}
 use Rattle.text.proofs.Appending.{taken-part, taken-le}
 use Rattle.text.proofs.Spelling.{hexNumber-whole, decimalNumber-whole}
-use Rattle.report.specs.Sift.{requestColumns, spaced}
 use Rattle.report.proofs.Forms.{message-formed, confidence-formed, word-formed, limit-formed, byte-string-fits, word-size, limit-size}
 use Rattle.report.proofs.Texts.{same-request}
-use borrow.Author.Needs.{needs}
 use Rattle.report.proofs.answer.write_request.Statement.{statement}
 use Rattle.report.proofs.answer.write_request.Tie as tie
 

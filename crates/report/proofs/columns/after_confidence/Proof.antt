@@ -1,11 +1,9 @@
 -- `report::columns::after_confidence` meets its contract.
-use mathlib.Core.Path.{_≡_, sym}
+use mathlib.Core.Path.{sym}
 use mathlib.Core.List.{List, _∷_}
-use Prim.Native.Nat.{ℕ, _+_}
+use Prim.Native.Nat.{ℕ}
 use native.Mathlib.Omega.{arith}
-use lib.ListN.{length}
 use lib.Seq.{length-take-le}
-use Rattle.text.specs.Output.{Place}
 use Rattle.report.specs.Sift.{answerText}
 use Rattle.report.proofs.Texts.{column-found, column-last, front-short, too-few-3}
 use borrow.Author.Needs.{needs}

@@ -1,15 +1,14 @@
 -- `report::columns::after_word` meets its contract.
-use mathlib.Core.Path.{_≡_, sym, ap, _∙_, subst}
+use mathlib.Core.Path.{_≡_, sym, ap, _∙_}
 use mathlib.Core.Bool.{true, false}
-use mathlib.Core.List.{List, _∷_}
-use Prim.Native.Nat.{ℕ, _+_, _*_, _≤_}
+use mathlib.Core.List.{List}
+use Prim.Native.Nat.{ℕ}
 use native.Mathlib.Omega.{arith}
 use lib.ListN.{length}
-use Rattle.text.specs.Output.{Place, append}
-use Rattle.report.specs.Sift.{wellFormed, answerText}
+use Rattle.text.specs.Output.{append}
+use Rattle.report.specs.Sift.{wellFormed}
 use Rattle.report.proofs.Forms.{word-formed, word-size}
 use Rattle.report.proofs.Texts.{well-formed-text, ill-formed-text, malformed-length}
-use borrow.Author.Needs.{needs}
 use Rattle.report.proofs.columns.after_word.Statement.{statement}
 use Rattle.report.proofs.columns.after_word.Tie as tie
 

@@ -1,11 +1,9 @@
 -- `report::columns::write_answer` meets its contract.
-use mathlib.Core.Path.{_≡_, sym}
-use mathlib.Core.List.{List, _∷_}
+use mathlib.Core.Path.{sym}
+use mathlib.Core.List.{List}
 use Prim.Native.Nat.{ℕ, _+_}
 use native.Mathlib.Omega.{arith}
-use lib.ListN.{length}
 use lib.Seq.{length-take-le}
-use Rattle.text.specs.Output.{Place}
 use Rattle.report.specs.Sift.{answerText}
 use Rattle.report.proofs.Texts.{column-found, column-last, rest-short, too-few-1}
 use borrow.Author.Needs.{needs}

@@ -3,7 +3,6 @@ use mathlib.Core.Path.{refl, ap, _∙_}
 use Rattle.text.specs.Output.{append}
 use Rattle.report.specs.Sift.{answerText, answerColumns}
 use Rattle.report.proofs.Texts.{malformed-text}
-use borrow.Author.Needs.{needs}
 use Rattle.report.proofs.columns.write_malformed.Statement.{statement}
 use Rattle.report.proofs.columns.write_malformed.Tie as tie
 

@@ -8,7 +8,6 @@ use Rattle.text.specs.Output.{Place, append}
 use Rattle.text.proofs.Appending.{after}
 use Rattle.report.specs.Sift.{answerText, outputLine}
 use Rattle.report.proofs.Texts.{line-length}
-use borrow.Author.Needs.{needs}
 use Rattle.report.proofs.lines.write_line.Statement.{statement}
 use Rattle.report.proofs.lines.write_line.Tie as tie
 

@@ -7,11 +7,10 @@ use native.Mathlib.Omega.{arith}
 use borrow.Author.Tests.{ltb-true, ltb-false}
 use lib.ListN.{length, take, drop, length-append}
 use Rattle.text.specs.Lines.{lines}
-use Rattle.text.specs.Output.{Place, append}
+use Rattle.text.specs.Output.{append}
 use Rattle.text.proofs.Appending.{part-done, all-done}
 use Rattle.report.specs.Sift.{outputLine, outputLines}
 use Rattle.report.proofs.Texts.{next-line, no-line, line-within, line-taken}
-use borrow.Author.Needs.{needs}
 use Rattle.report.proofs.lines.write_lines.Statement.{statement}
 use Rattle.report.proofs.lines.write_lines.Tie as tie
 

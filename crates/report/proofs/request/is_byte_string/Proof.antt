@@ -5,7 +5,6 @@ use lib.ListN.{length}
 use lib.Dec.{eqb}
 use Rattle.text.specs.Choice.{both}
 use Rattle.report.specs.Sift.{isByteString}
-use borrow.Author.Needs.{needs}
 use Rattle.report.proofs.request.is_byte_string.Statement.{statement}
 use Rattle.report.proofs.request.is_byte_string.Tie as tie
 

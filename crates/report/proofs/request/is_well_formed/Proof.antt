@@ -2,7 +2,6 @@
 use mathlib.Core.Path.{ap₂, _∙_}
 use Rattle.text.specs.Choice.{both}
 use Rattle.report.specs.Sift.{wellFormed}
-use borrow.Author.Needs.{needs}
 use Rattle.report.proofs.request.is_well_formed.Statement.{statement}
 use Rattle.report.proofs.request.is_well_formed.Tie as tie
 

@@ -4,7 +4,6 @@ use lib.ListN.{length}
 use lib.Dec.{eqb}
 use Rattle.text.specs.Choice.{both}
 use Rattle.report.specs.Sift.{isWord}
-use borrow.Author.Needs.{needs}
 use Rattle.report.proofs.request.is_word.Statement.{statement}
 use Rattle.report.proofs.request.is_word.Tie as tie
 

@@ -9,7 +9,6 @@ use Rattle.text.specs.Output.{Place, append}
 use Rattle.text.proofs.Appending.{after}
 use Rattle.sensor.specs.Verdicts.{markOf}
 use Rattle.report.specs.Sift.{markWord}
-use borrow.Author.Needs.{needs}
 use Rattle.report.proofs.verdict.write_correction.Statement.{statement}
 use Rattle.report.proofs.verdict.write_correction.Tie as tie
 

@@ -5,7 +5,6 @@ use Rattle.text.specs.Quoted.{ascii}
 use Rattle.text.specs.Digits.{decimalText}
 use Rattle.text.specs.Output.{Place, append}
 use Rattle.text.proofs.Appending.{after}
-use borrow.Author.Needs.{needs}
 use Rattle.report.proofs.verdict.write_dense.Statement.{statement}
 use Rattle.report.proofs.verdict.write_dense.Tie as tie
 

@@ -1,8 +1,7 @@
 -- `report::verdict::write_number` meets its contract.
-use Prim.Native.Nat.{ℕ, _<_, _*_, _^_}
+use Prim.Native.Nat.{_<_, _*_, _^_}
 use native.Mathlib.Omega.{arith}
 use Rattle.text.proofs.Spelling.{decimal-length}
-use borrow.Author.Needs.{needs}
 use Rattle.report.proofs.verdict.write_number.Statement.{statement}
 use Rattle.report.proofs.verdict.write_number.Tie as tie
 

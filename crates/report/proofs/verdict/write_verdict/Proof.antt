@@ -1,6 +1,6 @@
 -- `report::verdict::write_verdict` meets its contract.
 use mathlib.Core.Path.{refl, _≡_, sym, ap, _∙_, subst}
-use mathlib.Core.List.{List, [], _∷_, _++_}
+use mathlib.Core.List.{List}
 use Prim.Native.Nat.{ℕ, _≤_}
 use native.Mathlib.Omega.{arith}
 use lib.ListN.{length}

@@ -1,14 +1,13 @@
 -- `text::bytes::hex_bytes` meets its contract. The loop's invariant: what is left to append are the bytes of `s` from `i` on.
-use mathlib.Core.Path.{_≡_, refl, sym, ap, _∙_}
-use mathlib.Core.List.{List, [], _∷_, _++_}
-use Prim.Native.Nat.{ℕ, _+_, _-_, _*_, _/_, _%_, _≤_, _<_}
+use mathlib.Core.Path.{_≡_, refl, ap, _∙_}
+use mathlib.Core.List.{List, [], _∷_}
+use Prim.Native.Nat.{ℕ, _+_, _-_, _*_, _≤_}
 use native.Mathlib.Omega.{arith}
 use lib.ListN.{length, drop, getD}
-use Rattle.text.specs.Output.{Place, append}
+use Rattle.text.specs.Output.{append}
 use Rattle.text.specs.Digits.{digitValue, bytesOf}
 use Rattle.text.proofs.Spelling.{next-pair, no-pair}
 use Rattle.text.proofs.Appending.{part-done, all-done}
-use borrow.Author.Needs.{needs}
 use Rattle.text.proofs.bytes.hex_bytes.Statement.{statement}
 use Rattle.text.proofs.bytes.hex_bytes.Tie as tie
 

@@ -1,12 +1,11 @@
 -- `text::digits::all_hex` meets its contract. The loop's invariant: all bytes before `i` are digits.
 use mathlib.Core.Path.{_≡_, refl, sym, ap, _∙_}
-use Prim.Native.Nat.{ℕ, _+_, _-_, _≤_}
+use Prim.Native.Nat.{_-_, _≤_}
 use native.Mathlib.Omega.{arith}
 use lib.ListN.{length, drop}
 use Rattle.text.specs.Digits.{allHex}
 use Rattle.text.proofs.Parts.{no-more}
 use Rattle.text.proofs.Spelling.{hex-here, not-hex-here}
-use borrow.Author.Needs.{needs}
 use Rattle.text.proofs.digits.all_hex.Statement.{statement}
 use Rattle.text.proofs.digits.all_hex.Tie as tie
 

@@ -1,6 +1,5 @@
 -- `text::digits::is_hex_digit` meets its contract.
 use mathlib.Core.Path.{sym, _∙_}
-use borrow.Author.Needs.{needs}
 use Rattle.text.proofs.Spelling.{hex-decimal, hex-test, hex-below}
 use Rattle.text.proofs.digits.is_hex_digit.Statement.{statement}
 use Rattle.text.proofs.digits.is_hex_digit.Tie as tie

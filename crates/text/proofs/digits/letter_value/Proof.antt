@@ -2,7 +2,6 @@
 use mathlib.Core.Path.{sym, _∙_}
 use native.Mathlib.Omega.{arith}
 use Rattle.text.proofs.Spelling.{letter-range, value-letter, value-none}
-use borrow.Author.Needs.{needs}
 use Rattle.text.proofs.digits.letter_value.Statement.{statement}
 use Rattle.text.proofs.digits.letter_value.Tie as tie
 

@@ -1,13 +1,12 @@
 -- `text::output::put_bytes` meets its contract. The loop's invariant: what is left to append is `s` from `i` on.
-use mathlib.Core.Path.{_≡_, refl, sym, ap, _∙_}
-use mathlib.Core.List.{List, [], _∷_, _++_}
-use Prim.Native.Nat.{ℕ, _+_, _-_, _*_, _/_, _%_, _≤_, _<_}
+use mathlib.Core.Path.{_≡_, refl, _∙_}
+use mathlib.Core.List.{List, [], _∷_}
+use Prim.Native.Nat.{ℕ, _+_, _-_, _≤_}
 use native.Mathlib.Omega.{arith}
 use lib.ListN.{length, drop, getD}
-use Rattle.text.specs.Output.{Place, append}
+use Rattle.text.specs.Output.{append}
 use Rattle.text.proofs.Parts.{next-byte, no-more}
 use Rattle.text.proofs.Appending.{part-done, all-done}
-use borrow.Author.Needs.{needs}
 use Rattle.text.proofs.output.put_bytes.Statement.{statement}
 use Rattle.text.proofs.output.put_bytes.Tie as tie
 

@@ -1,8 +1,8 @@
 -- `text::output::put_pair` meets its contract.
-use mathlib.Core.Path.{_≡_, refl, sym, ap, _∙_}
-use mathlib.Core.List.{List, [], _∷_, _++_}
-use Prim.Native.Nat.{ℕ, _+_, _-_, _*_, _/_, _%_, _≤_, _<_}
-use Rattle.text.specs.Output.{Place, append}
+use mathlib.Core.Path.{_≡_, ap, _∙_}
+use mathlib.Core.List.{[], _∷_}
+use Prim.Native.Nat.{ℕ, _-_, _/_, _%_}
+use Rattle.text.specs.Output.{append}
 use Rattle.text.specs.Digits.{digitOf}
 use Rattle.text.proofs.Appending.{after}
 use borrow.Author.Needs.{needs}

@@ -1,0 +1,66 @@
+// What a line is answered, and its columns, each with a space in front of it.
+use division::Word;
+use encoder::Seal;
+use transponder::Reception;
+
+pub(crate) enum Answer {
+    Malformed,
+    Divided(Word),
+    Encoded(Seal),
+    Received(Reception),
+}
+
+// Appends the columns; the message is the one after the call.
+pub(crate) fn put(answer: Answer, m: &[u8], out: &mut [u8], taken: usize) -> usize {
+    match answer {
+        Answer::Malformed => text::put_bytes(out, taken, b" malformed - -"),
+        Answer::Divided(a) => put_divided(a, out, taken),
+        Answer::Encoded(a) => put_encoded(a, m, out, taken),
+        Answer::Received(a) => put_received(a, out, taken),
+    }
+}
+
+fn put_divided(answer: Word, out: &mut [u8], taken: usize) -> usize {
+    match answer {
+        Word::Value(w) => put_word(b" value ", w, out, taken),
+        Word::Refused(n) => put_refusal(n, b"", out, taken),
+    }
+}
+
+fn put_encoded(answer: Seal, m: &[u8], out: &mut [u8], taken: usize) -> usize {
+    match answer {
+        Seal::Sealed => put_message(b" sealed - ", m, out, taken),
+        Seal::Refused(n) => put_refusal(n, m, out, taken),
+    }
+}
+
+fn put_received(answer: Reception, out: &mut [u8], taken: usize) -> usize {
+    match answer {
+        Reception::Own => text::put_bytes(out, taken, b" own - -"),
+        Reception::AllCall => text::put_bytes(out, taken, b" allcall - -"),
+        Reception::NotOurs(address) => put_word(b" notours ", address, out, taken),
+        Reception::Refused(n) => put_refusal(n, b"", out, taken),
+    }
+}
+
+fn put_word(answer: &[u8], w: u32, out: &mut [u8], taken: usize) -> usize {
+    let named = text::put_bytes(out, taken, answer);
+    let next = text::put_word(out, named, w);
+    text::put_bytes(out, next, b" -")
+}
+
+fn put_refusal(n: u32, m: &[u8], out: &mut [u8], taken: usize) -> usize {
+    let named = text::put_bytes(out, taken, b" refused ");
+    let next = text::put_decimal(out, named, n);
+    put_message(b" ", m, out, next)
+}
+
+// A message in the last column, `-` where it has no bytes.
+fn put_message(before: &[u8], m: &[u8], out: &mut [u8], taken: usize) -> usize {
+    let next = text::put_bytes(out, taken, before);
+    if m.len() == 0 {
+        text::put_byte(out, next, b'-')
+    } else {
+        text::put_hex(out, next, m)
+    }
+}

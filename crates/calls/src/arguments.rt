@@ -1,0 +1,25 @@
+// The forms of the arguments.
+
+// An even number of capital hexadecimal digits, 2 to 64, or `-`.
+pub(crate) fn is_bytes(s: &[u8]) -> bool {
+    if s.len() == 0 || 64 < s.len() {
+        return false;
+    }
+    if s.len() % 2 == 0 {
+        text::all_hex(s)
+    } else {
+        check::same(s, b"-")
+    }
+}
+
+// 1 to 8 capital hexadecimal digits.
+pub(crate) fn is_word(s: &[u8]) -> bool {
+    if s.len() == 0 || 8 < s.len() {
+        return false;
+    }
+    text::all_hex(s)
+}
+
+pub(crate) fn is_bit(s: &[u8]) -> bool {
+    check::same(s, b"0") || check::same(s, b"1")
+}
