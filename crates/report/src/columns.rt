@@ -1,8 +1,8 @@
 // The columns of an input line, one after the other, up to the four of a well-formed line.
-ghost use Prim.Native.Nat.{_+_, _*_, _≤_};
+ghost use Prim.Native.Nat.{_+_, _-_, _*_, _≤_, _<_};
 ghost use mathlib.Core.Path.{_≡_};
 ghost use mathlib.Core.List.{[], _∷_};
-ghost use lib.ListN.{length};
+ghost use lib.ListN.{length, take, drop};
 ghost use Rattle.text.specs.Lines.{columns};
 ghost use Rattle.text.specs.Output.{append};
 ghost use Rattle.report.specs.Sift.{answerText};
@@ -15,8 +15,7 @@ pub(crate) fn write_answer(out: &mut [u8], taken: usize, line: &[u8]) -> usize
 {
     let end = text::find(line, 32);
     if end < line.len() {
-        let confidence_at = end + 1;
-        after_message(out, taken, &line[..end], &line[confidence_at..])
+        after_message(out, taken, &line[..end], column_after(line, end))
     } else {
         write_malformed(out, taken)
     }
@@ -28,8 +27,7 @@ fn after_message(out: &mut [u8], taken: usize, m: &[u8], others: &[u8]) -> usize
 {
     let end = text::find(others, 32);
     if end < others.len() {
-        let word_at = end + 1;
-        after_confidence(out, taken, m, &others[..end], &others[word_at..])
+        after_confidence(out, taken, m, &others[..end], column_after(others, end))
     } else {
         write_malformed(out, taken)
     }
@@ -41,8 +39,7 @@ fn after_confidence(out: &mut [u8], taken: usize, m: &[u8], c: &[u8], others: &[
 {
     let end = text::find(others, 32);
     if end < others.len() {
-        let limit_at = end + 1;
-        after_word(out, taken, m, c, &others[..end], &others[limit_at..])
+        after_word(out, taken, m, c, &others[..end], column_after(others, end))
     } else {
         write_malformed(out, taken)
     }
@@ -57,6 +54,15 @@ fn after_word(out: &mut [u8], taken: usize, m: &[u8], c: &[u8], w: &[u8], l: &[u
     } else {
         write_malformed(out, taken)
     }
+}
+
+// 'parted by one space': the next column starts right after it.
+fn column_after(s: &[u8], end: usize) -> &[u8]
+    requires { ⌜ end < length (now s) ⌝ }
+    ensures { λ r. ⌜ now r ≡ take (length (now (s .entry)) - (end + 1)) (drop (end + 1) (now (s .entry))) ⌝ }
+{
+    let start = end + 1;
+    &s[start..]
 }
 
 fn write_malformed(out: &mut [u8], taken: usize) -> usize

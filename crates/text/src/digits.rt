@@ -4,6 +4,7 @@ ghost use mathlib.Core.Bool.{false};
 ghost use Prim.Native.Nat.{_<_};
 ghost use Rattle.text.specs.Digits.{isDecimalDigit, isHexDigit, digitValue, digitOf, allDecimal, allHex};
 
+// 0 to 9.
 pub fn is_decimal_digit(b: u8) -> bool
     ensures { λ r. ⌜ r ≡ isDecimalDigit b ⌝ }
 {
@@ -47,6 +48,7 @@ pub(crate) fn digit_of(v: u8) -> u8
     if v < 10 { 48 + v } else { 55 + v }
 }
 
+// Whether every byte is a decimal digit, which is true of none.
 pub fn all_decimal(s: &[u8]) -> bool
     ensures { λ r. ⌜ r ≡ allDecimal (now (s .entry)) ⌝ }
 {
@@ -61,6 +63,7 @@ pub fn all_decimal(s: &[u8]) -> bool
     true
 }
 
+// Whether every byte is a hexadecimal digit, which is true of none.
 pub fn all_hex(s: &[u8]) -> bool
     ensures { λ r. ⌜ r ≡ allHex (now (s .entry)) ⌝ }
 {

@@ -6,6 +6,7 @@ ghost use Rattle.text.specs.Digits.{digitOf, hexText, wordText, decimalT
 ghost use Rattle.text.specs.Output.{append};
 use crate::digits::digit_of;
 
+// A full buffer stays as it is.
 pub fn put_byte(out: &mut [u8], taken: usize, b: u8) -> usize
     ensures { λ r. ⌜ (now (out .exit), r) ≡ append (now (out .entry), taken) (b ∷ []) ⌝ }
 {
@@ -17,6 +18,7 @@ pub fn put_byte(out: &mut [u8], taken: usize, b: u8) -> usize
     }
 }
 
+// As many of the bytes as there is room for.
 pub fn put_bytes(out: &mut [u8], taken: usize, s: &[u8]) -> usize
     ensures { λ r. ⌜ (now (out .exit), r) ≡ append (now (out .entry), taken) (now (s .entry)) ⌝ }
 {

@@ -1,7 +1,7 @@
 -- `report::write_output` meets its contract.
 use mathlib.Core.Path.{refl, _≡_, ap, _∙_}
 use mathlib.Core.List.{List, _++_}
-use Prim.Native.Nat.{ℕ}
+use Prim.Native.Nat.{ℕ, _≤_, _<_}
 use native.Mathlib.Omega.{arith}
 use lib.ListN.{length}
 use Rattle.text.specs.Quoted.{ascii}
@@ -20,7 +20,7 @@ put-bytes-requires : tie.Need-put-bytes-requires
 put-bytes-requires c κs = tt
 
 write-lines-requires : tie.Need-write-lines-requires
-write-lines-requires c κs = c .before .if1 .taken
+write-lines-requires c κs = omega arith
 
 slice-aggregate-put-bytes-2 : tie.Need-slice-aggregate-put-bytes-2
 slice-aggregate-put-bytes-2 c = refl
@@ -40,9 +40,10 @@ returns c =
     let last = c .before .before .write-lines in
     let one : (first .last .0, first .result) ≡ append start header = first .ensures in
     let two : (last .last .0, last .result) ≡ append (first .last .0, first .result) (outputLines 1 (lines input)) = last .ensures .0 in
-    let text : header ++ (outputLines 1 (lines input)) ≡ siftOutput input = output-read input (c .before .before .before .before .if1 .taken) in (
+    let small : length input ≤ 65536 = omega arith in
+    let text : header ++ (outputLines 1 (lines input)) ≡ siftOutput input = output-read input small in (
       after start (first .last .0, first .result) (last .last .0, last .result) header (outputLines 1 (lines input)) one two ∙ ap (append start) text,
-      output-length input (c .before .before .before .before .if1 .taken) (last .ensures .1),
+      output-length input small (last .ensures .1),
     )
 
 same-length-2 : tie.Need-same-length-2
@@ -57,7 +58,8 @@ returns-2 c =
     let last = c .before .before .put-bytes2 in
     let one : (first .last .0, first .result) ≡ append start header = first .ensures in
     let two : (last .last .0, last .result) ≡ append (first .last .0, first .result) (ascii "too long\n") = last .ensures in
-    let text : header ++ (ascii "too long\n") ≡ siftOutput input = output-too-long input (c .before .before .before .before .before .if1 .left) in (
+    let large : 65536 < length input = omega arith in
+    let text : header ++ (ascii "too long\n") ≡ siftOutput input = output-too-long input large in (
       after start (first .last .0, first .result) (last .last .0, last .result) header (ascii "too long\n") one two ∙ ap (append start) text,
       omega (arith, ap length text),
     )

@@ -1,15 +1,17 @@
 -- `division::byte_table::field_parity` meets its contract: the table's rule is one computed test over its 256 entries.
 use borrow.Author.Needs.{needs}
-use Rattle.division.specs.Polynomial.{polynomial, downwards}
-use Rattle.division.specs.Division.{generator, generatorPowers, reduce, divide, remainder, parity}
+use Prim.Native.Nat.{ℕ, _*_, _^_}
+use mathlib.Core.Path.{_∙_}
+use Rattle.division.specs.Polynomial.{downwards}
+use Rattle.division.specs.Division.{parity}
 use Rattle.division.specs.Tables.{IsByteTable}
-use Rattle.division.proofs.Table.{tabulate, tabulated}
+use Rattle.division.proofs.Table.{tabulate, tabulated, quick, quick-is}
 use Rattle.division.proofs.byte_table.field_parity.Statement.{statement}
 use Rattle.division.proofs.byte_table.field_parity.Tie as tie
 
 by-byte-table-requires : tie.Need-by-byte-table-requires
-unfolding IsByteTable tabulate parity remainder divide downwards reduce generator generatorPowers polynomial
-by-byte-table-requires c κs = λ k h. tabulated parity 256 k h
+unfolding IsByteTable tabulate parity quick downwards
+by-byte-table-requires c κs = λ k h. tabulated (λ (k : ℕ). quick 0x1FFF409 (k * 2 ^ 24)) 256 k h ∙ quick-is (k * 2 ^ 24)
 
 returns : tie.Need-returns
 returns c = search needs

@@ -1,8 +1,9 @@
 -- `report::columns::after_confidence` meets its contract.
-use mathlib.Core.Path.{sym}
+use mathlib.Core.Path.{_≡_, sym}
 use mathlib.Core.List.{List, _∷_}
-use Prim.Native.Nat.{ℕ}
+use Prim.Native.Nat.{ℕ, _+_, _-_}
 use native.Mathlib.Omega.{arith}
+use lib.ListN.{length, take, drop}
 use lib.Seq.{length-take-le}
 use Rattle.report.specs.Sift.{answerText}
 use Rattle.report.proofs.Texts.{column-found, column-last, front-short, too-few-3}
@@ -13,20 +14,11 @@ use Rattle.report.proofs.columns.after_confidence.Tie as tie
 find-requires : tie.Need-find-requires
 find-requires c κs = tt
 
-add-limit-at : tie.Need-add-limit-at
-add-limit-at c = search needs
-
 slice-aggregate-after-word : tie.Need-slice-aggregate-after-word
 slice-aggregate-after-word c = sym (length-take-le (c .before .before .before .find .result) (c .before .before .before .before .before .before .before .before .args .others .now) (omega arith))
 
-sub-after-word : tie.Need-sub-after-word
-sub-after-word c = search needs
-
-part-after-word-start : tie.Need-part-after-word-start
-part-after-word-start c = search needs
-
-part-after-word-end : tie.Need-part-after-word-end
-part-after-word-end c = search needs
+column-after-requires : tie.Need-column-after-requires
+column-after-requires c κs = search needs
 
 after-word-requires : tie.Need-after-word-requires
 after-word-requires c κs = tt
@@ -43,8 +35,10 @@ returns c =
     let found = c .before .before .before .before .before .before .before .find in
     let next = c .before .before .after-word in
     let s : List ℕ = a .others .now in
-    column-found (λ (cs : List (List ℕ)). answerText (a .m .now ∷ a .c .now ∷ cs)) (a .out .now, a .taken) (next .last .0, next .result) s (found .result) (found .ensures)
-    (c .before .before .before .before .before .before .if1 .taken) (next .ensures .0)
+    let rest : List ℕ = c .before .before .before .column-after .result .now in
+    let e : rest ≡ take (length s - (found .result + 1)) (drop (found .result + 1) s) = c .before .before .before .column-after .ensures in
+    column-found (λ (cs : List (List ℕ)). answerText (a .m .now ∷ a .c .now ∷ cs)) (a .out .now, a .taken) (next .last .0, next .result) s (found .result) (found .ensures) rest
+    (c .before .before .before .before .before .before .if1 .taken) e (next .ensures .0)
     (omega (arith, next .ensures .1, front-short s (found .result) (c .before .before .before .before .before .before .if1 .taken)))
 
 same-length-2 : tie.Need-same-length-2
@@ -64,11 +58,8 @@ after-confidence-spec =
     tie.close
     (tie.spec
     find-requires
-    add-limit-at
     slice-aggregate-after-word
-    sub-after-word
-    part-after-word-start
-    part-after-word-end
+    column-after-requires
     after-word-requires
     write-malformed-requires
     same-length

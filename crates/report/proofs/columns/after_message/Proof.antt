@@ -1,8 +1,9 @@
 -- `report::columns::after_message` meets its contract.
-use mathlib.Core.Path.{sym}
+use mathlib.Core.Path.{_≡_, sym}
 use mathlib.Core.List.{List, _∷_}
-use Prim.Native.Nat.{ℕ, _+_}
+use Prim.Native.Nat.{ℕ, _+_, _-_}
 use native.Mathlib.Omega.{arith}
+use lib.ListN.{length, take, drop}
 use lib.Seq.{length-take-le}
 use Rattle.report.specs.Sift.{answerText}
 use Rattle.report.proofs.Texts.{column-found, column-last, rest-short, too-few-2}
@@ -13,20 +14,11 @@ use Rattle.report.proofs.columns.after_message.Tie as tie
 find-requires : tie.Need-find-requires
 find-requires c κs = tt
 
-add-word-at : tie.Need-add-word-at
-add-word-at c = search needs
-
 slice-aggregate-after-confidence : tie.Need-slice-aggregate-after-confidence
 slice-aggregate-after-confidence c = sym (length-take-le (c .before .before .before .find .result) (c .before .before .before .before .before .before .before .args .others .now) (omega arith))
 
-sub-after-confidence : tie.Need-sub-after-confidence
-sub-after-confidence c = search needs
-
-part-after-confidence-start : tie.Need-part-after-confidence-start
-part-after-confidence-start c = search needs
-
-part-after-confidence-end : tie.Need-part-after-confidence-end
-part-after-confidence-end c = search needs
+column-after-requires : tie.Need-column-after-requires
+column-after-requires c κs = search needs
 
 after-confidence-requires : tie.Need-after-confidence-requires
 after-confidence-requires c κs = tt
@@ -43,9 +35,11 @@ returns c =
     let found = c .before .before .before .before .before .before .before .find in
     let next = c .before .before .after-confidence in
     let s : List ℕ = a .others .now in
-    column-found (λ (cs : List (List ℕ)). answerText (a .m .now ∷ cs)) (a .out .now, a .taken) (next .last .0, next .result) s (found .result) (found .ensures)
-    (c .before .before .before .before .before .before .if1 .taken) (next .ensures .0)
-    (omega (arith, next .ensures .1, rest-short s (found .result + 1)))
+    let rest : List ℕ = c .before .before .before .column-after .result .now in
+    let e : rest ≡ take (length s - (found .result + 1)) (drop (found .result + 1) s) = c .before .before .before .column-after .ensures in
+    column-found (λ (cs : List (List ℕ)). answerText (a .m .now ∷ cs)) (a .out .now, a .taken) (next .last .0, next .result) s (found .result) (found .ensures) rest
+    (c .before .before .before .before .before .before .if1 .taken) e (next .ensures .0)
+    (omega (arith, next .ensures .1, rest-short s rest (found .result + 1) e))
 
 same-length-2 : tie.Need-same-length-2
 same-length-2 c = c .before .before .write-malformed .kept .0
@@ -64,11 +58,8 @@ after-message-spec =
     tie.close
     (tie.spec
     find-requires
-    add-word-at
     slice-aggregate-after-confidence
-    sub-after-confidence
-    part-after-confidence-start
-    part-after-confidence-end
+    column-after-requires
     after-confidence-requires
     write-malformed-requires
     same-length

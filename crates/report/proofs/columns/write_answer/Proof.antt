@@ -1,8 +1,9 @@
 -- `report::columns::write_answer` meets its contract.
-use mathlib.Core.Path.{sym}
+use mathlib.Core.Path.{_≡_, sym}
 use mathlib.Core.List.{List}
-use Prim.Native.Nat.{ℕ, _+_}
+use Prim.Native.Nat.{ℕ, _+_, _-_}
 use native.Mathlib.Omega.{arith}
+use lib.ListN.{length, take, drop}
 use lib.Seq.{length-take-le}
 use Rattle.report.specs.Sift.{answerText}
 use Rattle.report.proofs.Texts.{column-found, column-last, rest-short, too-few-1}
@@ -13,20 +14,11 @@ use Rattle.report.proofs.columns.write_answer.Tie as tie
 find-requires : tie.Need-find-requires
 find-requires c κs = tt
 
-add-confidence-at : tie.Need-add-confidence-at
-add-confidence-at c = search needs
-
 slice-aggregate-after-message : tie.Need-slice-aggregate-after-message
 slice-aggregate-after-message c = sym (length-take-le (c .before .before .before .find .result) (c .before .before .before .before .before .before .args .line .now) (omega arith))
 
-sub-after-message : tie.Need-sub-after-message
-sub-after-message c = search needs
-
-part-after-message-start : tie.Need-part-after-message-start
-part-after-message-start c = search needs
-
-part-after-message-end : tie.Need-part-after-message-end
-part-after-message-end c = search needs
+column-after-requires : tie.Need-column-after-requires
+column-after-requires c κs = search needs
 
 after-message-requires : tie.Need-after-message-requires
 after-message-requires c κs = tt
@@ -43,9 +35,11 @@ returns c =
     let found = c .before .before .before .before .before .before .before .find in
     let next = c .before .before .after-message in
     let s : List ℕ = a .line .now in
-    column-found answerText (a .out .now, a .taken) (next .last .0, next .result) s (found .result) (found .ensures)
-    (c .before .before .before .before .before .before .if1 .taken) (next .ensures .0)
-    (omega (arith, next .ensures .1, rest-short s (found .result + 1)))
+    let rest : List ℕ = c .before .before .before .column-after .result .now in
+    let e : rest ≡ take (length s - (found .result + 1)) (drop (found .result + 1) s) = c .before .before .before .column-after .ensures in
+    column-found answerText (a .out .now, a .taken) (next .last .0, next .result) s (found .result) (found .ensures) rest
+    (c .before .before .before .before .before .before .if1 .taken) e (next .ensures .0)
+    (omega (arith, next .ensures .1, rest-short s rest (found .result + 1) e))
 
 same-length-2 : tie.Need-same-length-2
 same-length-2 c = c .before .before .write-malformed .kept .0
@@ -64,11 +58,8 @@ write-answer-spec =
     tie.close
     (tie.spec
     find-requires
-    add-confidence-at
     slice-aggregate-after-message
-    sub-after-message
-    part-after-message-start
-    part-after-message-end
+    column-after-requires
     after-message-requires
     write-malformed-requires
     same-length
