@@ -5,13 +5,13 @@ use mathlib.Core.Path.{_∙_}
 use Rattle.division.specs.Polynomial.{downwards}
 use Rattle.division.specs.Division.{parity}
 use Rattle.division.specs.Tables.{IsByteTable}
-use Rattle.division.proofs.Table.{tabulate, tabulated, quick, quick-is}
+use Rattle.division.proofs.Table.{tabulate, tabulated, reduceBy, quickDown, quick, quick-is}
 use Rattle.division.proofs.byte_table.field_parity.Statement.{statement}
 use Rattle.division.proofs.byte_table.field_parity.Tie as tie
 
 by-byte-table-requires : tie.Need-by-byte-table-requires
-unfolding IsByteTable tabulate parity quick downwards
-by-byte-table-requires c κs = λ k h. tabulated (λ (k : ℕ). quick 0x1FFF409 (k * 2 ^ 24)) 256 k h ∙ quick-is (k * 2 ^ 24)
+unfolding IsByteTable tabulate parity quick quickDown reduceBy downwards
+by-byte-table-requires c κs = λ k h. tabulated (λ (k : ℕ). quick (k * 2 ^ 24)) 256 k h ∙ quick-is (k * 2 ^ 24)
 
 returns : tie.Need-returns
 returns c = search needs

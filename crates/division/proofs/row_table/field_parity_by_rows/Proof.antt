@@ -4,13 +4,13 @@ use borrow.Author.Needs.{needs}
 use mathlib.Core.Path.{_∙_}
 use Rattle.division.specs.Polynomial.{downwards}
 use Rattle.division.specs.Tables.{IsRowTable}
-use Rattle.division.proofs.Table.{tabulate, tabulated, quick, quick-is}
+use Rattle.division.proofs.Table.{tabulate, tabulated, reduceBy, quickDown, quick, quick-is}
 use Rattle.division.proofs.row_table.field_parity_by_rows.Statement.{statement}
 use Rattle.division.proofs.row_table.field_parity_by_rows.Tie as tie
 
 by-rows-requires : tie.Need-by-rows-requires
-unfolding IsRowTable tabulate quick downwards
-by-rows-requires c κs = (λ j h. tabulated (λ (j : ℕ). quick 0x1FFF409 (2 ^ (111 - j))) 88 j h ∙ quick-is (2 ^ (111 - j)), c .before .before .pre)
+unfolding IsRowTable tabulate quick quickDown reduceBy downwards
+by-rows-requires c κs = (λ j h. tabulated (λ (j : ℕ). quick (2 ^ (111 - j))) 88 j h ∙ quick-is (2 ^ (111 - j)), c .before .before .pre)
 
 returns : tie.Need-returns
 returns c = search needs
