@@ -1,9 +1,8 @@
 -- Demand 2, accepting, and the first sentence of demand 3. The idea: a transponder's answer goes by the address read, which
 -- depends on the remainder alone; and no nonzero pattern inside a window has remainder 0.
-use mathlib.Core.Path.{_≡_, refl, sym, ap, ap₂, _∙_, subst}
-use mathlib.Core.Logic.{_↔_}
+use mathlib.Core.Path.{_≡_, sym, ap, _∙_, subst}
 use mathlib.Core.List.{List, [], _∷_}
-use Prim.Native.Nat.{ℕ, zero, suc, _+_, _-_, _*_, _^_, _<_, _≤_}
+use Prim.Native.Nat.{ℕ, _+_, _-_, _*_, _^_, _<_, _≤_}
 use native.Mathlib.Nat.{lt-irrefl, lt-of-lt-of-le}
 use native.Mathlib.Omega.{arith}
 use lib.Dec.{lit<}
@@ -12,12 +11,11 @@ use lib.ListN.{length}
 use lib.Pow.{pow-mono, shl-lt}
 use Rattle.division.specs.Division.{remainder, parity, overlay, addressRead, ReadsAs}
 use Rattle.division.specs.Message.{number, Bytes, field, formatNumber}
-use Rattle.division.specs.Answers.{Outcome}
 use Rattle.division.specs.Answers.Outcome.{refusal, answer}
 use Rattle.division.proofs.Laws.{xor-cancel, remainder-xor, burst-noticed, address-law, addressRead-lt, remainder-by-address, message-length-ge, overlay-lt}
-use Rattle.encoder.specs.Seals.{sealOutcome, interrogationAfter, withParity}
+use Rattle.encoder.specs.Seals.{interrogationAfter, withParity}
 use Rattle.encoder.proofs.Laws.{was-accepted, interrogation-after, interrogation-is, sealed-length, sealed-bytes, reply-lt}
-use Rattle.transponder.specs.Receptions.{receptionOutcome, reading}
+use Rattle.transponder.specs.Receptions.{receptionOutcome}
 use Rattle.transponder.proofs.Laws.{Case, cases, reading-own, reading-all-call, reading-other, Received as Judged, received}
 use Rattle.transponder.proofs.Receiving.Case.{own-case, all-call-case, other-case}
 use Rattle.sensor.specs.Changes.{place}

@@ -1,23 +1,23 @@
 -- Demand 3, sentence by sentence: each follows from `ours-is-right` and `only-one-is-right`.
-use mathlib.Core.Path.{_≡_, refl, sym, ap, ap₂, _∙_, subst}
-use mathlib.Core.Logic.{_↔_, _⊎_, inl, inr}
+use mathlib.Core.Path.{_≡_, refl, sym, ap, _∙_, subst}
+use mathlib.Core.Logic.{inl, inr}
 use mathlib.Core.List.{List, [], _∷_}
-use Prim.Native.Nat.{ℕ, zero, suc, _+_, _-_, _*_, _^_, _<_, _≤_}
+use Prim.Native.Nat.{ℕ, _+_, _-_, _*_, _^_, _<_, _≤_}
 use native.Mathlib.Nat.{lt-of-lt-of-le}
 use native.Mathlib.Omega.{arith}
 use lib.Bits.{bitXor}
 use lib.Count.{ones}
 use lib.ListN.{length}
 use lib.Pow.{pow-mono, shl-lt}
-use Rattle.division.specs.Division.{remainder, parity, overlay}
+use Rattle.division.specs.Division.{remainder, parity}
 use mathlib.Core.Bool.{true}
 use Rattle.division.specs.Message.{number, Bytes, field, isMessageLength, firstBitAgrees}
 use Rattle.division.specs.Answers.{Outcome}
 use Rattle.division.specs.Answers.Outcome.{refusal, answer}
 use Rattle.division.proofs.Laws.{xor-cancel-r, message-length-ge}
-use Rattle.encoder.specs.Seals.{withParity, replySeal, sealOutcome, replyAfter}
+use Rattle.encoder.specs.Seals.{withParity, sealOutcome, replyAfter}
 use Rattle.encoder.proofs.Laws.{was-accepted, reply-after, reply-is, reply-lt, sealed-length, sealed-bytes}
-use Rattle.sensor.specs.Changes.{lastWindow, place, Carries, InWindow, OnLow, Fit, lowMarks}
+use Rattle.sensor.specs.Changes.{lastWindow, place, Carries, InWindow, OnLow, Fit}
 use Rattle.sensor.specs.Verdicts.{inverted, sensorOutcome, sensorAfter}
 use Rattle.sensor.proofs.Laws.{Admitted, unrefused, after-refused, fit-is, inverted-number, inverted-bytes, inverted-length, inverted-by-number, sizes}
 use Rattle.conformance.specs.Sealing.{Message, ReplyCarries}

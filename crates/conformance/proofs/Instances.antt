@@ -2,9 +2,8 @@
 -- those of document 01's bench: the reply 00008000EB2472, sealed for 123456, with bit 17 hit; and the interrogation
 -- 00000000000003, sealed for 000002, with its last bit hit.
 use mathlib.Core.Path.{_≡_, refl, sym, ap, ap₂, _∙_}
-use mathlib.Core.Bool.{true}
 use mathlib.Core.List.{List, [], _∷_}
-use Prim.Native.Nat.{ℕ, zero, suc, _+_, _-_, _*_, _/_, _%_, _^_, _<_, _≤_}
+use Prim.Native.Nat.{ℕ, zero, suc, _-_, _/_, _%_, _^_, _<_, _≤_}
 use native.Mathlib.Omega.{arith}
 use lib.Dec.{lit<, lit≤}
 use lib.ListN.{length}
@@ -13,19 +12,19 @@ use lib.Bits.{and-zero-r}
 use lib.Pow.{pow-pos, shl-shr}
 use native.Mathlib.Nat.{zero-div, mod-lt}
 use Rattle.division.specs.Polynomial.{polynomial, downwards, product}
-use Rattle.division.specs.Division.{generator, generatorPowers, reduce, divide, quotient, remainder, backward, parity, overlay, addressRead, ReadsAs}
-use Rattle.division.specs.Message.{number, Bytes, field, parityField, formatNumber, firstBit, firstBitAgrees, isMessageLength, isFieldLength}
+use Rattle.division.specs.Division.{generator, generatorPowers, reduce, divide, quotient, remainder, parity, overlay, addressRead}
+use Rattle.division.specs.Message.{number, Bytes, field, formatNumber, firstBit, firstBitAgrees, isMessageLength}
 use Rattle.division.specs.Answers.{Outcome, isWord}
 use Rattle.division.specs.Answers.Outcome.{refusal, answer}
 use Rattle.encoder.specs.Seals.{wordBytes, withParity, replyParity, interrogationParity, replySeal, interrogationSeal, sealOutcome, replyAfter, interrogationAfter}
 use Rattle.transponder.specs.Receptions.{reading, isReserved, receptionOutcome}
-use Rattle.sensor.specs.Changes.{lastWindow, place, Carries, InWindow, OnLow, Fit, marksAt, lowMarks}
-use Rattle.sensor.specs.Verdicts.{highest, syndrome, candidate, changeAt, denseAt, fitsAt, differsAt, fitsRow, hitRow, rowOf, Row, rowAnswer, bytesOf, inverted, checked, sensorOutcome, sensorAfter}
+use Rattle.sensor.specs.Changes.{place, Carries, InWindow, OnLow, Fit, marksAt, lowMarks}
+use Rattle.sensor.specs.Verdicts.{syndrome, rowOf, Row, rowAnswer, inverted, checked, sensorOutcome, sensorAfter}
 use Rattle.sensor.specs.Verdicts.Row.{clean, dense, noFit, corrected}
 use Rattle.sensor.proofs.Laws.{inverted-bytes, inverted-length}
 use Rattle.conformance.specs.Sealing.{Message}
 use Rattle.conformance.specs.Bursts.{Burst}
-use Rattle.conformance.specs.Accepting.{Received, BurstNeverOwn}
+use Rattle.conformance.specs.Accepting.{BurstNeverOwn}
 use Rattle.conformance.specs.Correcting.{Call, IsDense, NoneDense, SaysClean, Correction, Corrects, HitReply}
 use Rattle.conformance.proofs.Accepting.{burst-never-own}
 use Rattle.conformance.proofs.Correcting.{says-clean, corrects, hit-reply, undone}

@@ -1,19 +1,17 @@
 -- The sensor is right, and only one answer is: the search of the definition against the rows of document 01. The idea: the
 -- highest place is the lowest window, and in each window the only possible change is the candidate's.
 use mathlib.Core.Path.{_≡_, refl, sym, ap, ap₂, _∙_, subst}
-use mathlib.Core.Logic.{_⊎_, inl, inr}
 use mathlib.Core.Bool.{Bool, true, false}
 use mathlib.Core.List.{List, [], _∷_}
-use Prim.Native.Nat.{ℕ, zero, suc, _+_, _-_, _*_, _^_, _<_, _≤_}
-use native.Mathlib.Nat.{lt-irrefl, lt-of-lt-of-le}
+use Prim.Native.Nat.{ℕ, zero, suc, _-_, _*_, _^_, _<_, _≤_}
 use native.Mathlib.Omega.{arith}
 use lib.Count.{ones}
 use lib.ListN.{length}
-use Rattle.division.specs.Message.{number, Bytes}
+use Rattle.division.specs.Message.{number}
 use Rattle.division.specs.Answers.{Outcome}
-use Rattle.division.specs.Answers.Outcome.{refusal, answer}
-use Rattle.sensor.specs.Changes.{lastWindow, place, Carries, InWindow, Fit, lowMarks}
-use Rattle.sensor.specs.Verdicts.{Found, highest, syndrome, candidate, changeAt, denseAt, fitsAt, differsAt, Row, hitRow, rowOf, rowAnswer, rowMessage, markNumber, inverted, sensorOutcome, sensorAfter}
+use Rattle.division.specs.Answers.Outcome.{answer}
+use Rattle.sensor.specs.Changes.{lastWindow, place, Carries, InWindow, Fit}
+use Rattle.sensor.specs.Verdicts.{Found, highest, syndrome, candidate, changeAt, denseAt, fitsAt, differsAt, Row, hitRow, rowOf, rowAnswer, rowMessage, inverted, sensorOutcome, sensorAfter}
 use Rattle.sensor.specs.Verdicts.Found.{nowhere, at}
 use Rattle.sensor.specs.Verdicts.Row.{corrected}
 use Rattle.sensor.proofs.Laws.{Admitted, unrefused, outcome-row, after-row, fits-none, fits-at, dense-row, sparse-row, clean-row, hit-row, not-zero, carries-zero, zero-carries, fit-is, is-fit, dense-is, not-dense, highest-found, highest-empty, differs-is, same-is, ones-change}

@@ -1,22 +1,17 @@
 -- Demand 2, sealing and reading. The idea: a message is its field and its parity field, and the remainder of the whole is
 -- R plus the parity field; so the remainder of a sealed message is the word, or the overlay of the address.
-use mathlib.Core.Path.{_≡_, refl, sym, ap, ap₂, _∙_, subst}
-use mathlib.Core.Logic.{_↔_}
-use mathlib.Core.Bool.{true}
-use mathlib.Core.List.{List, []}
-use Prim.Native.Nat.{ℕ, zero, suc, _+_, _-_, _*_, _/_, _%_, _^_, _<_, _≤_}
-use native.Mathlib.Nat.{mod-lt}
+use mathlib.Core.Path.{_≡_, sym, ap, _∙_}
+use mathlib.Core.List.{List}
+use Prim.Native.Nat.{ℕ, _+_, _-_, _/_, _%_, _^_, _<_, _≤_}
 use native.Mathlib.Omega.{arith}
-use lib.Bits.{bitXor, xor-shr, xor-mod, xor-self, xor-zero-l}
+use lib.Bits.{bitXor, xor-shr, xor-mod}
 use lib.ListN.{length}
-use lib.Pow.{pow-pos, shr-shr, field as cut}
 use Rattle.division.specs.Polynomial.{product}
-use Rattle.division.specs.Division.{generator, remainder, parity, overlay, addressRead, ReadsAs}
-use Rattle.division.specs.Message.{number, Bytes, field, parityField, isMessageLength, firstBitAgrees}
-use Rattle.division.specs.Answers.Outcome.{answer}
-use Rattle.division.proofs.Laws.{xor-cancel, xor-cancel-r, message-length-ge, message-remainder, remainder-parts, parityField-lt, addressRead-remainder, address-law, overlay-lt, read-overlay, remainder-by-address, parity-is, overlay-coefficient, lt-word, xor-left-comm}
-use Rattle.encoder.specs.Seals.{withParity, replySeal, interrogationSeal, sealOutcome, interrogationAfter}
-use Rattle.encoder.proofs.Laws.{sealed-length, sealed-field, sealed-parity-number, sealed-number, own-parity, reply-is, interrogation-is, reply-lt, interrogation-after, accepted, was-accepted}
+use Rattle.division.specs.Division.{generator, remainder, parity, overlay, addressRead}
+use Rattle.division.specs.Message.{number, field, parityField}
+use Rattle.division.proofs.Laws.{xor-cancel, message-length-ge, message-remainder, remainder-parts, addressRead-remainder, address-law, overlay-lt, read-overlay, remainder-by-address, parity-is, overlay-coefficient, lt-word}
+use Rattle.encoder.specs.Seals.{withParity, interrogationSeal}
+use Rattle.encoder.proofs.Laws.{sealed-field, sealed-parity-number, sealed-number, own-parity, reply-is, interrogation-is, reply-lt, interrogation-after, accepted, was-accepted}
 use Rattle.sensor.specs.Changes.{Carries}
 use Rattle.conformance.specs.Sealing.{Message, coefficient, parityBit, remainderOfField, ReplyBits, InterrogationBits, ReplyCarries, CarriesReply, SealedIsRead, ReadIsSealed, SealedCallIsRead, ReadIsSealedCall}
 

@@ -1,7 +1,7 @@
 -- Demand 2: 'Sealing, reading and accepting equal the Mode S definitions of ATC-117 and Annex 10 Volume IV. An
 -- interrogation sealed for an address is read as that address. A message read as an address is the seal of its own field
 -- for it.' Here what concerns sealing and reading.
-use Prim.Native.Nat.{ℕ, _+_, _-_, _*_, _/_, _%_, _^_, _<_, _≤_}
+use Prim.Native.Nat.{ℕ, _-_, _*_, _/_, _%_, _^_, _<_, _≤_}
 use mathlib.Core.Path.{_≡_}
 use mathlib.Core.Logic.{_↔_}
 use mathlib.Core.Bool.{true}
@@ -12,7 +12,7 @@ use Rattle.division.specs.Polynomial.{product}
 use Rattle.division.specs.Division.{generator, remainder, addressRead, ReadsAs}
 use Rattle.division.specs.Message.{number, Bytes, field, parityField, isMessageLength, firstBitAgrees}
 use Rattle.division.specs.Answers.Outcome.{answer}
-use Rattle.encoder.specs.Seals.{replySeal, interrogationSeal, sealOutcome, replyAfter, interrogationAfter}
+use Rattle.encoder.specs.Seals.{replySeal, interrogationSeal, sealOutcome, interrogationAfter}
 use Rattle.sensor.specs.Changes.{Carries}
 
 -- A message of 7 or 14 bytes, whatever stands in its parity field.

@@ -1,16 +1,15 @@
 -- The number of a byte list: how it splits at any place, how large it is, and that it determines the list.
 use mathlib.Core.Path.{_≡_, refl, sym, ap, ap₂, _∙_, subst}
 use mathlib.Core.List.{List, [], _∷_, _++_}
-use Prim.Native.Nat.{ℕ, zero, suc, _+_, _*_, _-_, _/_, _%_, _^_, _≤_, _<_, zero-le}
-use native.Mathlib.Nat.{not-suc-le-zero, le-of-eq, le-of-suc-le-suc, zero-lt-suc, add-zero, zero-mul, zero-add, mul-one, mul-add, mul-assoc, add-assoc, add-mul, mul-suc, add-comm, div-add-mod'}
-use native.Mathlib.Decide.{decLt}
+use Prim.Native.Nat.{ℕ, zero, suc, _+_, _*_, _-_, _/_, _%_, _^_, _≤_, _<_}
+use native.Mathlib.Nat.{le-of-eq, add-zero, zero-mul, zero-add, mul-one, mul-add, mul-assoc, add-assoc, add-mul, mul-suc, add-comm, div-add-mod'}
 use native.Mathlib.Numerals.{add-one}
 use native.Mathlib.Omega.{arith}
 use lib.Dec.{lit<}
-use lib.Arith.{digits-lt, digits-div, digits-mod}
-use lib.ListN.{length, getD, take, drop, take-append-drop, length-append, length-drop, List·getD-eq-default}
-use lib.Seq.{take-all, take-suc, getD-take, getD-drop, length-take-le}
-use lib.Pow.{pow-pos, pow-add, shr-shr, high, low}
+use lib.Arith.{digits-lt}
+use lib.ListN.{length, getD, take, drop, take-append-drop, length-append, length-drop}
+use lib.Seq.{take-all, take-suc, getD-drop, length-take-le}
+use lib.Pow.{pow-add, shr-shr, high, low}
 use Rattle.division.specs.Message.{number, Bytes, field, parityField}
 
 pub number-nil : number [] ≡ 0

@@ -4,16 +4,15 @@
 -- induction on the coefficients (`bin-ind`) that uses the step laws alone.
 use mathlib.Core.Path.{_≡_, refl, sym, ap, ap₂, _∙_, subst}
 use Prim.Native.Nat.{ℕ, zero, suc, _+_, _*_, _/_, _%_, _^_, _≤_, _<_}
-use native.Mathlib.Nat.{le-refl, le-of-suc-le-suc, not-suc-le-zero, mod-lt, zero-lt-suc, add-zero, zero-mul, zero-add, one-mul, div-add-mod', div-lt-iff-lt-mul, lt-of-lt-of-le, mul-mod-left, mul-div-cancel, div-eq-of-lt}
+use native.Mathlib.Nat.{le-refl, le-of-suc-le-suc, not-suc-le-zero, mod-lt, zero-lt-suc, add-zero, zero-mul, div-add-mod', div-lt-iff-lt-mul, mul-mod-left, mul-div-cancel, div-eq-of-lt}
 use native.Mathlib.Decide.{le-ind}
 use native.Mathlib.Omega.{arith}
 use lib.Dec.{lit<}
 use lib.Arith.{bin-ind, half-le, digits-div, digits-mod}
-use lib.Pow.{pow-pos}
-use lib.Bits.{bitXor, differ, xor-step, xor-comm, xor-self, xor-zero-l, xor-zero-r, xor-block, xor-shr, xor-mod, xor-shifted}
+use lib.Bits.{bitXor, xor-self, xor-zero-r, xor-block, xor-shr, xor-mod, xor-shifted}
 use Rattle.division.specs.Polynomial.{polynomial, downwards, product}
 use Rattle.division.specs.Division.{generator, generatorPowers, reduce, divide, quotient, remainder}
-use Rattle.division.proofs.Xor.{xor-half, xor-low, xor-assoc, xor-cancel, xor-cancel-r, xor-move, xor-middle, xor-common, xor-shl, xor-bit-times}
+use Rattle.division.proofs.Xor.{xor-half, xor-middle, xor-common, xor-shl, xor-bit-times}
 
 two-pos : zero < 2
 two-pos = zero-lt-suc 1

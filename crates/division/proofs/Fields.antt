@@ -1,9 +1,9 @@
 -- What the loops of the three ways to R keep: the register and the byte table hold R of the bytes passed, and the rows
 -- hold R of the bytes, or bits, passed with zeros after them. Each has a law for the start, the next turn and the end.
-use mathlib.Core.Path.{_≡_, refl, sym, ap, ap₂, _∙_, subst}
+use mathlib.Core.Path.{_≡_, sym, ap, ap₂, _∙_, subst}
 use mathlib.Core.List.{List, [], _∷_}
 use Prim.Native.Nat.{ℕ, zero, suc, _+_, _-_, _*_, _/_, _%_, _^_, _≤_, _<_}
-use native.Mathlib.Nat.{not-suc-le-zero, mod-lt, zero-lt-suc, zero-mul, mul-one, div-one, add-zero, add-suc, add-comm, div-eq-of-lt, lt-of-le-of-lt, lt-of-lt-of-le, mul-le-mul-right, le-of-suc-le-suc, one-mul, zero-add, div-add-mod'}
+use native.Mathlib.Nat.{not-suc-le-zero, mod-lt, zero-lt-suc, zero-mul, mul-one, div-one, add-zero, add-suc, div-eq-of-lt, lt-of-le-of-lt, lt-of-lt-of-le, mul-le-mul-right, le-of-suc-le-suc, one-mul, zero-add, div-add-mod'}
 use native.Mathlib.Numerals.{add-one}
 use native.Mathlib.Omega.{arith}
 use lib.ListN.{length, getD, take}
@@ -14,7 +14,7 @@ use lib.Pow.{shr-lt}
 use lib.Bits.{bitXor, xor-shifted}
 use Rattle.division.specs.Division.{remainder, shiftIn, parity}
 use Rattle.division.specs.Message.{number, Bytes}
-use Rattle.division.specs.Ways.{registerWay, tableStep, tableWay, rowSum, ThreeWays}
+use Rattle.division.specs.Ways.{registerWay, tableStep, tableWay, ThreeWays}
 use Rattle.division.proofs.Xor.{xor-shl}
 use Rattle.division.proofs.Shifting.{shl-suc, shl-shl, shl-comm, shiftIn-byte, parity-zero, parity-lt, parity-xor, parity-extend, parity-by-rows, bit-row}
 use Rattle.division.proofs.Bytes.{number-nil, number-next, number-lt, number-append-byte, next-bit}

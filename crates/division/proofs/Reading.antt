@@ -12,10 +12,10 @@ use native.Mathlib.Omega.{arith}
 use lib.Dec.{lit<}
 use lib.Arith.{digits-lt, lt-one, le-zero}
 use lib.Pow.{pow-pos, pow-mono, shr-shr, mod-mod-pow, field as cut, shl-lt, shr-mod, shr-le, split, high, low}
-use lib.Bits.{bitXor, xor-comm, xor-zero-l, xor-zero-r, xor-lt, xor-shr, xor-mod, xor-shifted}
+use lib.Bits.{bitXor, xor-zero-r, xor-lt, xor-mod, xor-shifted}
 use Rattle.division.specs.Polynomial.{product}
 use Rattle.division.specs.Division.{generator, quotient, remainder, parity, shiftIn, overlay, addressRead, ReadsAs}
-use Rattle.division.proofs.Xor.{xor-shl, xor-move, xor-cancel-r}
+use Rattle.division.proofs.Xor.{xor-shl, xor-move}
 use Rattle.division.proofs.Dividing.{generator-is, quotient-double, quotient-step, quotient-small, quotient-xor, remainder-lt, remainder-small, remainder-xor, division-equation, division-unique, multiple, product-zero, product-step, product-digit}
 use Rattle.division.proofs.Shifting.{shl-suc, shl-shl, generator-lt, remainder-shl}
 use Rattle.division.specs.Message.{number, Bytes, field, parityField}

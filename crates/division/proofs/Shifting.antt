@@ -3,13 +3,13 @@
 -- can be undone modulo the generator, since the generator has the constant term 1.
 use mathlib.Core.Path.{_≡_, refl, sym, ap, ap₂, _∙_, subst}
 use Prim.Native.Nat.{ℕ, zero, suc, _+_, _-_, _*_, _/_, _%_, _^_, _≤_, _<_}
-use native.Mathlib.Nat.{le-of-suc-le-suc, not-suc-le-zero, mod-lt, zero-lt-suc, add-zero, zero-mul, zero-add, mul-one, one-mul, mul-assoc, mul-comm, pow-suc, div-add-mod', div-lt-iff-lt-mul, mul-mod-left, mul-div-cancel, mod-eq-of-lt, mod-one, sub-self, sub-zero, div-one, div-eq-of-lt}
-use native.Mathlib.Numerals.{add-one, one-add}
+use native.Mathlib.Nat.{le-of-suc-le-suc, not-suc-le-zero, mod-lt, zero-lt-suc, zero-mul, mul-one, one-mul, mul-assoc, mul-comm, pow-suc, div-add-mod', div-lt-iff-lt-mul, mul-mod-left, mul-div-cancel, mod-eq-of-lt, mod-one, sub-self, sub-zero, div-one, div-eq-of-lt}
+use native.Mathlib.Numerals.{one-add}
 use native.Mathlib.Omega.{arith}
 use lib.Dec.{lit<}
 use lib.Arith.{le-zero}
 use lib.Pow.{pow-pos, pow-add, mod-pow-add}
-use lib.Bits.{bitXor, xor-comm, xor-self, xor-zero-l, xor-zero-r, xor-lt, xor-mod, xor-shifted}
+use lib.Bits.{bitXor, xor-comm, xor-self, xor-zero-r, xor-lt, xor-mod, xor-shifted}
 use Rattle.division.specs.Polynomial.{polynomial}
 use Rattle.division.specs.Division.{generator, generatorPowers, reduce, remainder, shiftIn, backward, parity}
 use Rattle.division.specs.Ways.{rowSum}

@@ -1,13 +1,13 @@
 -- The tests that pick an answer: what a test that passed, or failed, makes of the definition that picks by it.
-use mathlib.Core.Path.{_≡_, refl, sym, ap, ap₂, _∙_, subst}
+use mathlib.Core.Path.{_≡_, refl, sym, ap, _∙_}
 use mathlib.Core.Bool.{Bool, true, false}
 use mathlib.Core.Logic.{_⊎_, inl, inr}
 use mathlib.Core.List.{List, [], _∷_}
 use Prim.Native.Nat.{ℕ, _+_, _<_, _≤_, _^_}
 use native.Mathlib.Omega.{arith}
-use lib.Dec.{leb, eqb}
+use lib.Dec.{eqb}
 use lib.ListN.{length}
-use borrow.Author.Tests.{leb-true, eqb-true, le-leb, eq-eqb}
+use borrow.Author.Tests.{leb-true, eqb-true, le-leb}
 use Rattle.division.specs.Division.{remainder, backward, parity, overlay, addressRead}
 use Rattle.division.specs.Message.{number, either, isMessageLength, isFieldLength}
 use Rattle.division.specs.Answers.{Outcome, unless, isWord, said, parityAnswer, remainderAnswer, addressAnswer, overlayAnswer, backwardAnswer}

@@ -1,12 +1,12 @@
 -- The exclusive or on numbers is the sum of polynomials: an abelian group in which every element is its own inverse,
 -- and multiplication by x^k goes through it. `lib.Bits` has the digit-wise laws; associativity and what follows from
 -- it are here.
-use mathlib.Core.Path.{_≡_, refl, sym, ap, ap₂, _∙_, subst}
-use Prim.Native.Nat.{ℕ, zero, suc, _+_, _*_, _/_, _%_, _^_, _≤_, _<_}
+use mathlib.Core.Path.{_≡_, refl, sym, ap, ap₂, _∙_}
+use Prim.Native.Nat.{ℕ, zero, suc, _+_, _*_, _/_, _%_, _^_, _<_}
 use native.Mathlib.Nat.{le-of-suc-le-suc, not-suc-le-zero, mod-lt, zero-lt-suc, add-zero, zero-mul}
-use lib.Arith.{bin-ind, digits-div, digits-mod}
+use lib.Arith.{bin-ind, digits-mod}
 use lib.Pow.{pow-pos}
-use lib.Bits.{bitXor, differ, xor-step, xor-comm, xor-self, xor-zero-l, xor-zero-r, xor-block, xor-shr, xor-mod, xor-shifted}
+use lib.Bits.{bitXor, differ, xor-step, xor-comm, xor-self, xor-zero-r, xor-block, xor-shr}
 
 two-pos : zero < 2
 two-pos = zero-lt-suc 1

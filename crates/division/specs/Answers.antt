@@ -1,5 +1,5 @@
 -- What a call answers, in the terms of document 01: the table of refused calls, and the answers of this library.
-use Prim.Native.Nat.{ℕ, _+_}
+use Prim.Native.Nat.{ℕ}
 use mathlib.Core.List.{List, [], _∷_}
 use mathlib.Core.Bool.{Bool, true, false}
 use lib.ListN.{length}

@@ -1,18 +1,17 @@
 -- A sealed message: its length, its field, its parity field and its number.
 use mathlib.Core.Path.{_≡_, refl, sym, ap, ap₂, _∙_, subst}
-use mathlib.Core.Bool.{true}
-use mathlib.Core.List.{List, [], _∷_, _++_}
+use mathlib.Core.List.{List, [], _∷_}
 use Prim.Native.Nat.{ℕ, zero, suc, _+_, _-_, _*_, _/_, _%_, _^_, _<_, _≤_}
 use native.Mathlib.Omega.{arith}
 use lib.Dec.{lit<}
 use lib.Bits.{bitXor, xor-lt}
-use lib.ListN.{length, take, drop, length-append}
+use lib.ListN.{length, length-append}
 use lib.Seq.{take-at, drop-at}
 use Rattle.division.specs.Division.{parity, overlay}
 use Rattle.division.specs.Message.{number, Bytes, field, parityField}
 use Rattle.division.specs.Answers.{Outcome}
-use Rattle.division.specs.Answers.Outcome.{refusal, answer}
-use Rattle.division.proofs.Laws.{number-three, number-append, number-message, number-injective, field-is, parityField-is, field-length, parityField-length, parityField-lt, bytes-take, bytes-append, parity-lt, overlay-lt}
+use Rattle.division.specs.Answers.Outcome.{answer}
+use Rattle.division.proofs.Laws.{number-three, number-append, number-message, number-injective, field-is, parityField-is, field-length, parityField-lt, bytes-take, bytes-append, parity-lt}
 use Rattle.encoder.specs.Seals.{wordBytes, withParity, replyParity, interrogationParity, replySeal, interrogationSeal, sealOutcome, left, replyAfter, interrogationAfter}
 
 -- ---- the bytes of a word

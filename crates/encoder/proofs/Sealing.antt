@@ -1,14 +1,14 @@
 -- How a seal's definitions split: the outcome by its three tests, the buffer by the outcome, and the parity field's bytes.
-use mathlib.Core.Path.{_≡_, refl, sym, ap, ap₂, _∙_, subst}
-use mathlib.Core.Bool.{Bool, true, false}
+use mathlib.Core.Path.{_≡_, refl, sym, ap, ap₂, _∙_}
+use mathlib.Core.Bool.{true, false}
 use mathlib.Core.List.{List, [], _∷_, _++_, append-nil}
-use Prim.Native.Nat.{ℕ, zero, suc, _+_, _-_, _*_, _/_, _%_, _^_, _<_, _≤_}
+use Prim.Native.Nat.{ℕ, _+_, _-_, _^_, _<_, _≤_}
 use native.Mathlib.Omega.{arith}
-use lib.ListN.{length, set, take, drop, length-drop}
+use lib.ListN.{length, set, take}
 use lib.Seq.{drop-length}
-use borrow.Rule.Slice.PartMut.{putMid, postOf, post-is}
-use Rattle.division.specs.Message.{field, isMessageLength, firstBitAgrees}
-use Rattle.division.specs.Answers.{Outcome, unless, isWord}
+use borrow.Rule.Slice.PartMut.{putMid, post-is}
+use Rattle.division.specs.Message.{isMessageLength, firstBitAgrees}
+use Rattle.division.specs.Answers.{Outcome, isWord}
 use Rattle.division.specs.Answers.Outcome.{refusal, answer}
 use Rattle.division.proofs.Laws.{refused, passed, unless-answer, word-lt, field-is}
 use Rattle.encoder.specs.Seals.{wordBytes, withParity, sealOutcome, left, said}

@@ -3,10 +3,10 @@
 -- after the other says which of them fit, and whether they invert the same message bits (`search-seen`).
 use mathlib.Core.Path.{_≡_, refl, sym, ap, ap₂, _∙_, subst}
 use mathlib.Core.Logic.{_⊎_, inl, inr}
-use mathlib.Core.Bool.{Bool, true, false, not}
-use mathlib.Core.List.{List, [], _∷_}
-use Prim.Native.Nat.{ℕ, zero, suc, _+_, _-_, _*_, _/_, _%_, _^_, _<_, _≤_}
-use native.Mathlib.Nat.{mul-one, zero-mul, eq-or-lt-of-le, le-of-suc-le-suc, not-suc-le-zero, zero-lt-suc, lt-trans, le-refl, lt-irrefl, lt-of-lt-of-le, le-suc, le-trans, le-of-eq, one-mul, mul-le-mul-right}
+use mathlib.Core.Bool.{Bool, true, false}
+use mathlib.Core.List.{List}
+use Prim.Native.Nat.{ℕ, zero, suc, _+_, _-_, _*_, _/_, _^_, _<_, _≤_}
+use native.Mathlib.Nat.{add-suc, add-zero, zero-add, mul-one, zero-mul, eq-or-lt-of-le, le-of-suc-le-suc, not-suc-le-zero, zero-lt-suc, lt-trans, le-refl, lt-irrefl, lt-of-lt-of-le, le-suc, le-trans, le-of-eq, one-mul, mul-le-mul-right}
 use native.Mathlib.Numerals.{add-one}
 use native.Mathlib.Omega.{arith}
 use lib.Bits.{bitAnd}
@@ -16,7 +16,7 @@ use borrow.Author.Tests.{eqb-true, eqb-false, eq-eqb, ne-eqb}
 use Rattle.division.specs.Division.{remainder, backward}
 use Rattle.division.proofs.Laws.{remainder-zero, remainder-small, remainder-shl, backward-is, backward-lt, shl-suc, shl-shl, shl-comm}
 use Rattle.sensor.specs.Changes.{marksAt}
-use Rattle.sensor.specs.Verdicts.{Found, firstOf, highest, candidate, changeAt, fitsAt, differsAt, both}
+use Rattle.sensor.specs.Verdicts.{firstOf, highest, candidate, changeAt, fitsAt}
 use Rattle.sensor.specs.Verdicts.Found.{nowhere, at}
 use Rattle.sensor.specs.Searching.{Sound, pickNumber, counted, noted, kept, visited, searchTo}
 use Rattle.sensor.specs.declared.search.Search.{Search}
@@ -63,12 +63,17 @@ pub highest-next : (t : ℕ → Bool) (k : ℕ) → highest t (k + 1) ≡ firstO
 unfolding highest
 highest-next t k = ap (highest t) (add-one k)
 
-pub highest-none : (t : ℕ → Bool) (k : ℕ) → ((e : ℕ) → e < k → t e ≡ false) → highest t k ≡ nowhere
+pub highest-past : (t : ℕ → Bool) (k n : ℕ) → ((e : ℕ) → k ≤ e → e < k + n → t e ≡ false) → highest t (k + n) ≡ highest t k
 unfolding highest
-highest-none t zero h = refl
-highest-none t (suc k) h =
-    ap (λ (b : Bool). firstOf b k (highest t k)) (h k (le-refl (suc k)))
-    ∙ highest-none t k (λ e l. h e (lt-trans l (le-refl (suc k))))
+highest-past t k zero h = ap (highest t) (add-zero k)
+highest-past t k (suc n) h =
+    ap (highest t) (add-suc k n)
+    ∙ ap (λ (b : Bool). firstOf b (k + n) (highest t (k + n))) (h (k + n) (omega arith) (omega arith))
+    ∙ highest-past t k n (λ e l u. h e l (omega arith))
+
+pub highest-none : (t : ℕ → Bool) (k : ℕ) → ((e : ℕ) → e < k → t e ≡ false) → highest t k ≡ nowhere
+highest-none t k h =
+    ap (highest t) (sym (zero-add k)) ∙ highest-past t 0 k (λ e l u. h e (omega arith)) ∙ sym (highest-start t)
 
 pub highest-at : (t : ℕ → Bool) (k e : ℕ) → e < k → t e ≡ true → ((i : ℕ) → e < i → i < k → t i ≡ false) → highest t k ≡ at e
 unfolding highest

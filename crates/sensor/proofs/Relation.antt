@@ -3,21 +3,20 @@
 use mathlib.Core.Path.{_≡_, refl, sym, ap, ap₂, _∙_, subst}
 use mathlib.Core.Logic.{_⊎_, inl, inr}
 use mathlib.Core.Bool.{Bool, true, false, not}
-use mathlib.Core.List.{List, [], _∷_}
+use mathlib.Core.List.{List}
 use Prim.Native.Nat.{ℕ, zero, suc, _+_, _-_, _*_, _/_, _%_, _^_, _<_, _≤_}
-use native.Mathlib.Nat.{mod-lt, add-zero, zero-mul, zero-add, le-refl, lt-trans, le-of-suc-le-suc, not-suc-le-zero, eq-or-lt-of-le}
+use native.Mathlib.Nat.{mod-lt, add-zero, zero-add, le-of-suc-le-suc, not-suc-le-zero, eq-or-lt-of-le}
 use native.Mathlib.Omega.{arith}
-use lib.Bits.{bitAnd, bitXor, and-block, and-zero-l, xor-self}
+use lib.Bits.{bitAnd, bitXor, and-block, xor-self}
 use lib.Count.{ones, ones-cat, ones-ones}
-use lib.Dec.{eqb, ltb}
-use lib.ListN.{length}
+use lib.Dec.{eqb}
 use lib.Pow.{pow-pos, split, shl-shr}
-use borrow.Author.Tests.{eqb-true, eqb-false, eq-eqb, ltb-true, ltb-false, lt-ltb}
+use borrow.Author.Tests.{eqb-true, eq-eqb, ltb-true, ltb-false}
 use Rattle.division.specs.Division.{remainder}
 use Rattle.division.specs.Message.{number}
-use Rattle.division.proofs.Laws.{xor-assoc, xor-cancel, xor-cancel-r, xor-move, remainder-xor, window-unique}
+use Rattle.division.proofs.Laws.{xor-cancel, xor-move, remainder-xor, window-unique}
 use Rattle.sensor.specs.Changes.{lastWindow, place, Carries, InWindow, OnLow, Fit, marksAt, lowMarks}
-use Rattle.sensor.specs.Verdicts.{Found, firstOf, highest, syndrome, candidate, changeAt, denseAt, fitsAt, differsAt, both}
+use Rattle.sensor.specs.Verdicts.{firstOf, highest, syndrome, candidate, changeAt, denseAt, fitsAt, differsAt, both}
 use Rattle.sensor.specs.Verdicts.Found.{nowhere, at}
 use Rattle.sensor.proofs.Fits.{candidate-lt, candidate-law, candidate-pos}
 use Rattle.sensor.proofs.Rows.{syndrome-lt}

@@ -4,7 +4,7 @@ use mathlib.Core.Path.{_≡_, refl, sym, ap, ap₂, _∙_, subst}
 use mathlib.Core.Logic.{_⊎_, inl, inr}
 use mathlib.Core.Bool.{Bool, true, false, not}
 use mathlib.Core.List.{List, [], _∷_}
-use Prim.Native.Nat.{ℕ, zero, suc, _+_, _-_, _*_, _^_, _<_, _≤_}
+use Prim.Native.Nat.{ℕ, zero, suc, _-_, _*_, _^_, _<_, _≤_}
 use native.Mathlib.Nat.{le-of-suc-le-suc, zero-lt-suc}
 use native.Mathlib.Omega.{arith}
 use lib.Bits.{bitXor, xor-lt}
@@ -16,14 +16,14 @@ use Rattle.division.specs.Division.{remainder}
 use Rattle.division.specs.Message.{number, isMessageLength}
 use Rattle.division.specs.Answers.{Outcome, unless, isWord}
 use Rattle.division.specs.Answers.Outcome.{refusal, answer}
-use Rattle.division.proofs.Laws.{refused, passed, unless-answer, word-lt, message-length, remainder-lt}
+use Rattle.division.proofs.Laws.{passed, unless-answer, word-lt, message-length, remainder-lt}
 use Rattle.sensor.specs.Changes.{lastWindow}
-use Rattle.sensor.specs.Verdicts.{Found, highest, candidate, changeAt, fitsAt, differsAt, both, Row, fitRow, denseRow, cleanRow, fitsRow, hitRow, rowOf, markNumber, rowAnswer, rowMessage, inverted, syndrome, checkedNumbers, checked, sensorOutcome, sensorAfter, left, denseAt, markOf, said}
+use Rattle.sensor.specs.Verdicts.{Found, highest, candidate, changeAt, fitsAt, differsAt, both, Row, fitRow, denseRow, cleanRow, fitsRow, hitRow, rowOf, markNumber, rowAnswer, rowMessage, inverted, syndrome, checked, sensorOutcome, sensorAfter, left, denseAt}
 use Rattle.sensor.specs.Verdicts.Found.{nowhere, at}
 use Rattle.sensor.specs.Verdicts.Row.{clean, dense, noFit, corrected}
-use Rattle.sensor.specs.Searching.{pickNumber, markFor}
+use Rattle.sensor.specs.Searching.{markFor}
 use Rattle.sensor.specs.declared.search.Search.{Search}
-use Rattle.sensor.proofs.Fits.{Top, Seen, highest-none, highest-at, highest-some, candidate-lt}
+use Rattle.sensor.proofs.Fits.{Top, Seen, highest-none, highest-at, highest-some}
 use Rattle.sensor.proofs.Fits.Seen.{none, one, many}
 
 -- ---- the fits

@@ -1,9 +1,6 @@
 -- Different verdicts of the code are different answers of the paper.
-use mathlib.Core.Path.{_≡_, refl, sym, ap, _∙_}
-use mathlib.Core.List.{List, [], _∷_}
-use Prim.Native.Nat.{ℕ}
+use mathlib.Core.Path.{_≡_, refl, ap}
 use native.Mathlib.Omega.{arith}
-use Rattle.division.specs.Answers.Outcome.{refusal, answer}
 use Rattle.sensor.specs.Verdicts.{said, markOf}
 use Rattle.sensor.specs.declared.Mark.{Mark}
 use Rattle.sensor.specs.declared.Mark.the-variants.{Sole, Several}

@@ -2,7 +2,7 @@
 --
 -- A change is spoken of as the message bits that it inverts: one number d, the polynomial of those bits. The same message
 -- bits reached through two windows are then the same d.
-use Prim.Native.Nat.{ℕ, _+_, _-_, _*_, _/_, _%_, _^_, _<_, _≤_}
+use Prim.Native.Nat.{ℕ, _-_, _*_, _/_, _%_, _^_, _<_, _≤_}
 use mathlib.Core.Path.{_≡_}
 use mathlib.Core.List.{List}
 use lib.Bits.{bitAnd, bitXor}

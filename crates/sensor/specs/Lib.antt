@@ -1,5 +1,4 @@
 -- What a reader must believe of the sensor: the relation of document 01, and what the call answers and leaves.
 pub mod Changes
-pub mod Windows
 pub mod Verdicts
 pub mod Searching

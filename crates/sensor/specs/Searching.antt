@@ -1,7 +1,6 @@
 -- What the search of the code holds after some places. That it ends with what Verdicts.antt defines is the law
 -- `search-seen` (proofs/Fits.antt).
 use Prim.Native.Nat.{ℕ, zero, suc, _*_, _^_, _<_, _≤_}
-use mathlib.Core.Path.{_≡_}
 use mathlib.Core.List.{List, []}
 use mathlib.Core.Bool.{Bool, true, false}
 use lib.Bits.{bitAnd}

@@ -4,7 +4,7 @@
 -- The search goes by places: the last window is place 0, the window before it place 1, and so on, so the lowest window is
 -- the highest place. In each window one pattern at most makes the message carry the word: the syndrome divided by x once
 -- for each place.
-use Prim.Native.Nat.{ℕ, zero, suc, _+_, _-_, _*_, _/_, _%_, _^_}
+use Prim.Native.Nat.{ℕ, zero, suc, _-_, _*_, _/_, _%_, _^_}
 use mathlib.Core.List.{List, [], _∷_}
 use mathlib.Core.Bool.{Bool, true, false, not}
 use lib.Bits.{bitAnd, bitXor}
@@ -18,7 +18,6 @@ use Rattle.division.specs.Answers.Outcome.{refusal, answer}
 use Rattle.sensor.specs.Changes.{lastWindow, marksAt}
 use Rattle.sensor.specs.declared.Mark.{Mark}
 use Rattle.sensor.specs.declared.Mark.the-variants.{Sole, Several}
-use Rattle.sensor.specs.declared.Correction.{Correction}
 use Rattle.sensor.specs.declared.Verdict.{Verdict}
 use Rattle.sensor.specs.declared.Verdict.the-variants.{Clean, Dense, NoFit, Corrected, Refused}
 

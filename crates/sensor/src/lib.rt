@@ -1,7 +1,7 @@
 // The sensor: whether a reply carries the expected word, and if not, the correction that its confidence bits allow.
 //
 // The call is checked first; then it is clean, or the windows are asked for their density, and then for their fits. What it
-// knows of division are its public functions and their contracts.
+// knows of division and of a window's bits are the public functions of those crates and their contracts.
 ghost use Prim.Native.Nat.{_<_, _≤_, _^_, _-_, _*_};
 ghost use mathlib.Core.Path.{_≡_};
 ghost use mathlib.Core.Bool.{true};
@@ -20,7 +20,6 @@ use search::highest_dense;
 mod inverting;
 mod reply;
 mod search;
-mod windows;
 
 // Whether the correction applied was the only one possible.
 pub enum Mark {

@@ -2,17 +2,14 @@
 //
 // The window at place e needs the syndrome divided by x e times. The search keeps the fit of the lowest window so far, and
 // whether all fits so far invert the same message bits.
-ghost use Prim.Native.Nat.{_<_, _≤_, _*_, _^_, suc};
+ghost use Prim.Native.Nat.{_+_, _<_, _≤_, _*_, _%_, _^_, suc};
 ghost use mathlib.Core.Path.{_≡_};
-ghost use mathlib.Core.Bool.{Bool};
 ghost use lib.Dec.{eqb};
 ghost use lib.ListN.{length};
 ghost use Rattle.division.specs.Division.{backward};
 ghost use Rattle.sensor.specs.Changes.{lastWindow};
 ghost use Rattle.sensor.specs.Verdicts.{denseAt, firstOf, highest};
 ghost use Rattle.sensor.specs.Searching.{foundOf, Sound, noted, kept, visited, searchTo};
-use crate::windows::fits;
-use crate::windows::is_dense;
 use division::Word;
 
 // A place, or none.
@@ -30,15 +27,46 @@ pub(crate) struct Search {
     pub pattern: u32,
 }
 
-// The highest place whose window has more low marks than the limit.
+// The highest place whose window has more low marks than the limit: the last window, then those before it, eight at a time.
 pub(crate) fn highest_dense(c: &[u8], limit: u32) -> Spot
     requires { ⌜ (3 ≤ length (now c)) × (length (now c) ≤ 14) ⌝ }
     ensures { λ r. ⌜ foundOf r ≡ highest (denseAt (now (c .entry)) limit) (suc (lastWindow (now (c .entry)))) ⌝ }
 {
     let windows = c.len() * 8 - 23;
-    let mut spot = Spot::Nowhere;
-    let mut place: usize = 0;
+    let mut spot = search_dense(c, limit, Spot::Nowhere, 0, 1);
+    let mut place: usize = 1;
     while place < windows {
+        spot = pass_byte(c, limit, spot, place);
+        place += 8;
+    }
+    spot
+}
+
+// The eight windows that start in one byte. They lie in four bytes: where these have few low marks, no window is asked.
+fn pass_byte(c: &[u8], limit: u32, before: Spot, place: usize) -> Spot
+    requires { ⌜ (3 ≤ length (now c)) × (length (now c) ≤ 14) ⌝ }
+    requires { ⌜ (place % 8 ≡ 1) × (place + 7 ≤ lastWindow (now c)) ⌝ }
+    requires { ⌜ foundOf before ≡ highest (denseAt (now c) limit) place ⌝ }
+    ensures { λ r. ⌜ foundOf r ≡ highest (denseAt (now (c .entry)) limit) (place + 8) ⌝ }
+{
+    let at = (c.len() * 8 - 24 - place) / 8;
+    if windows::is_sparse(&c[at..], limit) {
+        before
+    } else {
+        search_dense(c, limit, before, place, place + 8)
+    }
+}
+
+// The places from one on, up to another: what was found before them, or the highest that is dense.
+fn search_dense(c: &[u8], limit: u32, before: Spot, from: usize, to: usize) -> Spot
+    requires { ⌜ (3 ≤ length (now c)) × (length (now c) ≤ 14) ⌝ }
+    requires { ⌜ («from» ≤ to) × (to ≤ suc (lastWindow (now c))) ⌝ }
+    requires { ⌜ foundOf before ≡ highest (denseAt (now c) limit) «from» ⌝ }
+    ensures { λ r. ⌜ foundOf r ≡ highest (denseAt (now (c .entry)) limit) to ⌝ }
+{
+    let mut spot = before;
+    let mut place = from;
+    while place < to {
         spot = later(spot, dense_at(c, limit, place), place as u32);
         place += 1;
     }
@@ -60,7 +88,7 @@ fn dense_at(c: &[u8], limit: u32, place: usize) -> bool
     let start = c.len() * 8 - 24 - place;
     let at = start / 8;
     let offset = (start % 8) as u32;
-    is_dense(&c[at..], offset, limit)
+    windows::is_dense(&c[at..], offset, limit)
 }
 
 // The fits of every window, of a syndrome that is not zero.
@@ -95,7 +123,7 @@ fn visit(state: Search, c: &[u8], place: usize) -> Search
     let window = c.len() * 8 - 24 - place;
     let at = window / 8;
     let offset = (window % 8) as u32;
-    let here = fits(&c[at..], offset, pattern);
+    let here = windows::fits(&c[at..], offset, pattern);
     let seen = keep(state, here, place as u32);
     Search {
         candidate: divide_by_x(pattern),

@@ -1,5 +1,5 @@
 -- `edges::last_line` meets its contract. The loop's invariant: the last line that starts before `i` starts within the text.
-use Prim.Native.Nat.{ℕ, _+_, _-_, _≤_, _<_}
+use Prim.Native.Nat.{_-_, _≤_, _<_}
 use native.Mathlib.Omega.{arith}
 use lib.ListN.{length}
 use Rattle.edges.proofs.last_line.Statement.{statement}

@@ -1,5 +1,5 @@
 -- `encoder::address_overlay` meets its contract: a 24-bit address is answered with a value.
-use mathlib.Core.Path.{_≡_, sym, _∙_}
+use mathlib.Core.Path.{_∙_}
 use borrow.Author.Needs.{needs}
 use Rattle.division.proofs.Laws.{value-is, not-refused, overlay-value}
 use Rattle.encoder.proofs.address_overlay.Statement.{statement}

@@ -1,5 +1,5 @@
 -- `encoder::check` meets its contract: the three tests, in the order of the table.
-use mathlib.Core.Path.{_≡_, sym, _∙_}
+use mathlib.Core.Path.{sym, _∙_}
 use borrow.Author.Needs.{needs}
 use Rattle.encoder.proofs.Sealing.{refused-length, refused-word, refused-bit, accepted}
 use Rattle.encoder.proofs.check.Statement.{statement}

@@ -1,5 +1,5 @@
 -- `encoder::field_parity` meets its contract: a field of 4 or 11 bytes is answered with a value.
-use mathlib.Core.Path.{_≡_, sym, _∙_}
+use mathlib.Core.Path.{_∙_}
 use borrow.Author.Needs.{needs}
 use Rattle.division.proofs.Laws.{value-is, not-refused, parity-value}
 use Rattle.encoder.proofs.field_parity.Statement.{statement}

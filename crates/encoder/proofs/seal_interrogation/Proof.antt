@@ -1,10 +1,10 @@
 -- `encoder::seal_interrogation` meets its contract: a refusal leaves the buffer, and else the parity field is written.
-use mathlib.Core.Path.{_≡_, sym, ap, _∙_, subst}
+use mathlib.Core.Path.{sym, ap, _∙_, subst}
 use mathlib.Core.List.{List}
 use Prim.Native.Nat.{ℕ, _<_, _^_}
 use lib.Bits.{bitXor}
 use borrow.Author.Needs.{needs}
-use Rattle.division.specs.Division.{parity, overlay}
+use Rattle.division.specs.Division.{parity}
 use Rattle.division.specs.Message.{number, field}
 use Rattle.division.proofs.Laws.{overlay-lt}
 use Rattle.encoder.specs.Seals.{withParity, interrogationParity, interrogationSeal, interrogationAfter}

@@ -1,13 +1,9 @@
 -- `encoder::seal_reply` meets its contract: a refusal leaves the buffer, and else the parity field is written.
-use mathlib.Core.Path.{_≡_, sym, ap, _∙_, subst}
+use mathlib.Core.Path.{sym, _∙_}
 use mathlib.Core.List.{List}
-use Prim.Native.Nat.{ℕ, _<_, _^_}
-use lib.Bits.{bitXor}
+use Prim.Native.Nat.{ℕ}
 use borrow.Author.Needs.{needs}
-use Rattle.division.specs.Division.{parity, overlay}
-use Rattle.division.specs.Message.{number, field}
-use Rattle.division.proofs.Laws.{overlay-lt}
-use Rattle.encoder.specs.Seals.{withParity, replyParity, replySeal, replyAfter}
+use Rattle.encoder.specs.Seals.{replyParity, replySeal, replyAfter}
 use Rattle.encoder.proofs.Sealing.{was-accepted, left-refused, left-answered, sealed-said, refused-said}
 use Rattle.encoder.proofs.seal_reply.Statement.{statement}
 use Rattle.encoder.proofs.seal_reply.Tie as tie

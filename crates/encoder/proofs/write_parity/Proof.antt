@@ -2,11 +2,11 @@
 -- is lent.
 use mathlib.Core.Path.{_≡_, sym, ap, _∙_, subst}
 use mathlib.Core.List.{List}
-use Prim.Native.Nat.{ℕ, _+_, _-_, _<_, _^_}
+use Prim.Native.Nat.{ℕ, _-_, _<_, _^_}
 use native.Mathlib.Nat.{sub-le}
 use native.Mathlib.Omega.{arith}
 use lib.Bits.{bitXor, xor-lt}
-use lib.ListN.{length, take, drop, length-drop}
+use lib.ListN.{length, take, length-drop}
 use lib.Seq.{length-take-le}
 use borrow.Author.Needs.{needs}
 use Rattle.division.specs.Division.{parity}

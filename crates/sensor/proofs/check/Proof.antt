@@ -1,9 +1,8 @@
 -- `sensor::check` meets its contract: rows 1 and 2, and then the numbers.
 use mathlib.Core.Path.{sym, _∙_}
-use mathlib.Core.List.{[]}
 use borrow.Author.Tests.{eq-eqb, ne-eqb}
 use borrow.Author.Needs.{needs}
-use Rattle.division.specs.Answers.Outcome.{refusal, answer}
+use Rattle.division.specs.Answers.Outcome.{refusal}
 use Rattle.division.proofs.Laws.{refused, passed}
 use Rattle.sensor.specs.Verdicts.{checked}
 use Rattle.sensor.proofs.check.Statement.{statement}

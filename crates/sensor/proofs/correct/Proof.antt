@@ -1,8 +1,7 @@
 -- `sensor::correct` meets its contract: a refusal leaves the message, and else the row that applies answers.
-use mathlib.Core.Path.{_≡_, refl, sym, ap, _∙_, subst}
-use mathlib.Core.List.{List, []}
-use Prim.Native.Nat.{ℕ, _<_, _^_}
-use lib.Bits.{bitXor}
+use mathlib.Core.Path.{sym, ap, _∙_}
+use mathlib.Core.List.{List}
+use Prim.Native.Nat.{ℕ}
 use lib.ListN.{length}
 use borrow.Author.Needs.{needs}
 use Rattle.division.specs.Answers.{Outcome}

@@ -1,9 +1,8 @@
 -- `sensor::judge` meets its contract.
-use mathlib.Core.Path.{_≡_, refl, sym, ap, _∙_, subst}
-use mathlib.Core.List.{List, []}
+use mathlib.Core.Path.{_≡_, sym, ap, _∙_, subst}
+use mathlib.Core.List.{List}
 use Prim.Native.Nat.{ℕ, _<_, _^_}
 use lib.Bits.{bitXor}
-use lib.ListN.{length}
 use borrow.Author.Needs.{needs}
 use Rattle.sensor.specs.Verdicts.{syndrome, hitRow, rowAnswer, rowMessage}
 use Rattle.sensor.proofs.Rows.{clean-row, hit-row, syndrome-is, syndrome-lt, not-zero}

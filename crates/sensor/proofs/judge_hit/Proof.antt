@@ -1,11 +1,10 @@
 -- `sensor::judge_hit` meets its contract.
-use mathlib.Core.Path.{_≡_, refl, sym, ap, ap₂, _∙_, subst}
+use mathlib.Core.Path.{sym, ap, _∙_}
 use mathlib.Core.List.{List, [], _∷_}
-use Prim.Native.Nat.{ℕ, suc, _-_, _*_}
-use lib.ListN.{length}
+use Prim.Native.Nat.{ℕ, _-_}
 use borrow.Author.Needs.{needs}
 use Rattle.division.specs.Answers.Outcome.{answer}
-use Rattle.sensor.specs.Verdicts.{rowAnswer, rowMessage, denseAt, highest}
+use Rattle.sensor.specs.Verdicts.{rowAnswer, rowMessage}
 use Rattle.sensor.specs.Searching.{foundOf}
 use Rattle.sensor.proofs.Rows.{dense-row, sparse-row, sizes, sizes-of}
 use Rattle.sensor.proofs.judge_hit.Statement.{statement}

@@ -1,11 +1,11 @@
 -- `sensor::mend` meets its contract: the state of the search says which row applies.
-use mathlib.Core.Path.{_≡_, refl, sym, ap, ap₂, _∙_, subst}
-use mathlib.Core.List.{List, []}
+use mathlib.Core.Path.{_≡_, sym, ap, _∙_, subst}
+use mathlib.Core.List.{List}
 use Prim.Native.Nat.{ℕ, suc, _-_, _*_, _^_, _<_, _≤_}
 use lib.ListN.{length}
 use borrow.Author.Needs.{needs}
 use Rattle.sensor.specs.Changes.{lastWindow}
-use Rattle.sensor.specs.Verdicts.{rowAnswer, rowMessage, candidate, inverted}
+use Rattle.sensor.specs.Verdicts.{rowAnswer, rowMessage, inverted}
 use Rattle.sensor.specs.Searching.{searchTo}
 use Rattle.sensor.specs.declared.search.Search.{Search}
 use Rattle.sensor.proofs.Bits.{inverted-length}

@@ -1,5 +1,5 @@
 -- `transponder::receive_whole` meets its contract: rows 5 and 6, and then the reading.
-use mathlib.Core.Path.{_≡_, sym, ap₂, _∙_}
+use mathlib.Core.Path.{sym, ap₂, _∙_}
 use Prim.Native.Nat.{ℕ}
 use borrow.Author.Needs.{needs}
 use Rattle.transponder.specs.Receptions.{reading}

@@ -2,7 +2,6 @@
 use mathlib.Core.Path.{_≡_, sym, subst}
 use Prim.Native.Nat.{ℕ, _-_, _≤_, _<_, _^_}
 use native.Mathlib.Omega.{arith}
-use lib.Dec.{lit<}
 use lib.ListN.{length, take}
 use Rattle.division.specs.Division.{parity}
 use Rattle.division.specs.Message.{number}

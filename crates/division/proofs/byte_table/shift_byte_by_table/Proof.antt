@@ -1,6 +1,6 @@
 -- `division::byte_table::shift_byte_by_table` meets its contract: the entry is R of the byte that leaves plus the byte
 -- that enters.
-use mathlib.Core.Path.{_≡_, sym, ap, _∙_, subst}
+use mathlib.Core.Path.{ap, _∙_}
 use Prim.Native.Nat.{ℕ, _*_, _/_, _%_, _<_, _^_}
 use native.Mathlib.Omega.{arith}
 use lib.Bits.{bitXor, xor-lt}

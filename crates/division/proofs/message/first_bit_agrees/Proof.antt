@@ -1,5 +1,5 @@
 -- `division::message::first_bit_agrees` meets its contract.
-use mathlib.Core.Path.{_≡_, ap₂, sym}
+use mathlib.Core.Path.{ap₂, sym}
 use mathlib.Core.Bool.{Bool}
 use Prim.Native.Nat.{ℕ, _/_}
 use lib.Dec.{eqb}

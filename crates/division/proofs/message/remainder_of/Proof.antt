@@ -8,7 +8,7 @@ use lib.ListN.{length, take, drop}
 use lib.Seq.{length-take-le}
 use borrow.Author.Needs.{needs}
 use Rattle.division.specs.Division.{parity}
-use Rattle.division.specs.Message.{number, Bytes, field, parityField}
+use Rattle.division.specs.Message.{number, field, parityField}
 use Rattle.division.proofs.Bytes.{part-from}
 use Rattle.division.proofs.Reading.{remainder-parts}
 use Rattle.division.proofs.message.remainder_of.Statement.{statement}

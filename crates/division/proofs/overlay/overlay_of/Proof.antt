@@ -1,10 +1,9 @@
 -- `division::overlay::overlay_of` meets its contract. The loop's invariant: the product of the coefficients of A above
 -- `left` with the generator.
-use mathlib.Core.Path.{_≡_, sym, ap, _∙_, subst}
-use Prim.Native.Nat.{ℕ, _/_, _%_, _*_, _-_, _^_, _≤_, _<_}
+use mathlib.Core.Path.{_≡_, sym, subst}
+use Prim.Native.Nat.{ℕ, _/_, _-_, _^_, _≤_, _<_}
 use native.Mathlib.Nat.{mod-lt, zero-lt-suc}
 use native.Mathlib.Omega.{arith}
-use lib.Dec.{lit<}
 use Rattle.division.specs.Polynomial.{product}
 use Rattle.division.specs.Division.{generator}
 use Rattle.division.proofs.Reading.{product-none, product-down, product-fits, overlay-from}

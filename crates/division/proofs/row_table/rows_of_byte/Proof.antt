@@ -1,11 +1,10 @@
 -- `division::row_table::rows_of_byte` meets its contract. The loop's invariant: the sum is R of the bits above `left`,
 -- with zeros in the place of the rest.
 use mathlib.Core.Path.{_≡_, sym, ap, _∙_, subst}
-use Prim.Native.Nat.{ℕ, _+_, _-_, _*_, _/_, _%_, _^_, _≤_, _<_}
+use Prim.Native.Nat.{ℕ, _+_, _-_, _*_, _/_, _^_, _≤_, _<_}
 use native.Mathlib.Omega.{arith}
 use native.Mathlib.Nat.{mod-lt, zero-lt-suc}
 use borrow.Author.Needs.{needs}
-use lib.ListN.{getD}
 use Rattle.division.specs.Division.{parity, remainder}
 use Rattle.division.specs.Tables.{IsRowTable}
 use Rattle.division.proofs.Dividing.{remainder-lt}

@@ -1,5 +1,5 @@
 -- `sensor::reply::remainder_of` meets its contract: the copy is the message.
-use mathlib.Core.Path.{_≡_, sym, ap, _∙_}
+use mathlib.Core.Path.{ap, _∙_}
 use mathlib.Core.List.{List}
 use Prim.Native.Nat.{ℕ}
 use lib.ListN.{length}

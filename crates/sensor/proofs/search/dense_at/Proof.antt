@@ -1,16 +1,12 @@
 -- `sensor::search::dense_at` meets its contract: the marks of the part are the marks of the window.
-use mathlib.Core.Path.{_≡_, sym, ap, ap₂, _∙_, subst}
+use mathlib.Core.Path.{_∙_, ap}
 use mathlib.Core.List.{List}
-use Prim.Native.Nat.{ℕ, _-_, _/_, _%_}
-use lib.ListN.{length, take, drop}
-use lib.Dec.{eqb, ltb}
-use lib.Bits.{bitAnd}
+use Prim.Native.Nat.{ℕ}
+use lib.Dec.{ltb}
 use lib.Count.{ones}
 use borrow.Author.Needs.{needs}
-use Rattle.division.proofs.Laws.{part-from}
-use Rattle.sensor.specs.Windows.{Starts, windowMarks}
 use Rattle.sensor.specs.Verdicts.{denseAt}
-use Rattle.sensor.proofs.Marks.{windowAt, window-starts, marks-at}
+use Rattle.sensor.proofs.Marks.{marks-at}
 use Rattle.sensor.proofs.search.dense_at.Statement.{statement}
 use Rattle.sensor.proofs.search.dense_at.Tie as tie
 
@@ -36,10 +32,7 @@ part-is-dense-end : tie.Need-part-is-dense-end
 part-is-dense-end c = search needs
 
 is-dense-requires : tie.Need-is-dense-requires
-is-dense-requires c κs =
-    let m : List ℕ = c .before .before .args .c .now in
-    let e : ℕ = c .before .before .args .place in
-    subst (λ (p : List ℕ). Starts p (windowAt m e % 8)) (sym (part-from (windowAt m e / 8) m)) (window-starts m e (c .before .before .pre .0 .0) (c .before .before .pre .1))
+is-dense-requires c κs = search needs
 
 returns : tie.Need-returns
 unfolding denseAt
@@ -48,7 +41,7 @@ returns c =
     let e : ℕ = c .before .before .before .args .place in
     c .is-dense .ensures
     ∙ ap (λ (n : ℕ). ltb (c .before .before .before .args .limit) (ones n))
-    (ap (λ (p : List ℕ). windowMarks p (windowAt m e % 8)) (part-from (windowAt m e / 8) m) ∙ marks-at m e (c .before .before .before .pre .0 .0) (c .before .before .before .pre .1))
+    (marks-at m e (λ i. c .before .before .shared-slice-known .given i .fits) (c .before .before .before .pre .0 .0) (c .before .before .before .pre .1))
 
 pub dense-at-spec : {M : Type 1} → statement M
 dense-at-spec =

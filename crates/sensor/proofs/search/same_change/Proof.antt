@@ -1,6 +1,6 @@
 -- `sensor::search::same_change` meets its contract: the shift loses no bit, and patterns 24 places apart never meet.
 use mathlib.Core.Path.{ap, _∙_}
-use Prim.Native.Nat.{ℕ, _-_}
+use Prim.Native.Nat.{_-_}
 use native.Mathlib.Omega.{arith}
 use lib.Dec.{eqb}
 use lib.Pow.{shl-exact}

@@ -1,20 +1,15 @@
 -- `sensor::search::visit` meets its contract: the marks of the part are the marks of the window.
-use mathlib.Core.Path.{_≡_, sym, ap, ap₂, _∙_, subst}
+use mathlib.Core.Path.{_≡_, ap, ap₂, _∙_}
 use mathlib.Core.List.{List}
 use mathlib.Core.Bool.{Bool}
-use Prim.Native.Nat.{ℕ, _-_, _/_, _%_}
-use lib.ListN.{length, take, drop}
-use lib.Dec.{eqb, ltb}
+use Prim.Native.Nat.{ℕ}
+use lib.Dec.{eqb}
 use lib.Bits.{bitAnd}
-use lib.Count.{ones}
 use borrow.Author.Needs.{needs}
-use Rattle.division.specs.Division.{backward}
-use Rattle.division.proofs.Laws.{part-from}
 use Rattle.sensor.specs.Changes.{marksAt}
-use Rattle.sensor.specs.Windows.{Starts, windowMarks}
 use Rattle.sensor.specs.Searching.{Sound, kept, visited}
 use Rattle.sensor.specs.declared.search.Search.{Search}
-use Rattle.sensor.proofs.Marks.{windowAt, window-starts, marks-at}
+use Rattle.sensor.proofs.Marks.{marks-at}
 use Rattle.sensor.proofs.search.visit.Statement.{statement}
 use Rattle.sensor.proofs.search.visit.Tie as tie
 
@@ -40,10 +35,7 @@ part-fits-end : tie.Need-part-fits-end
 part-fits-end c = search needs
 
 fits-requires : tie.Need-fits-requires
-fits-requires c κs =
-    let m : List ℕ = c .before .before .args .c .now in
-    let e : ℕ = c .before .before .args .place in
-    subst (λ (p : List ℕ). Starts p (windowAt m e % 8)) (sym (part-from (windowAt m e / 8) m)) (window-starts m e (c .before .before .pre .0 .0) (c .before .before .pre .1 .0))
+fits-requires c κs = search needs
 
 cast-keep : tie.Need-cast-keep
 cast-keep c = search needs
@@ -61,10 +53,9 @@ returns c =
     let m : List ℕ = c .before .before .before .before .before .args .c .now in
     let e : ℕ = c .before .before .before .before .before .args .place in
     let st : Search = c .before .before .before .before .before .args .state in
-    let marks : windowMarks (take (length m - windowAt m e / 8) (drop (windowAt m e / 8) m)) (windowAt m e % 8) ≡ marksAt m e =
-    ap (λ (p : List ℕ). windowMarks p (windowAt m e % 8)) (part-from (windowAt m e / 8) m) ∙ marks-at m e (c .before .before .before .before .before .pre .0 .0) (c .before .before .before .before .before .pre .1 .0) in
     let here : c .before .before .fits2 .result ≡ eqb (bitAnd (st .candidate) (marksAt m e)) (st .candidate) =
-    c .before .before .fits2 .ensures ∙ ap (λ (n : ℕ). eqb (bitAnd (st .candidate) n) (st .candidate)) marks in
+    c .before .before .fits2 .ensures ∙ ap (λ (n : ℕ). eqb (bitAnd (st .candidate) n) (st .candidate))
+    (marks-at m e (λ i. c .before .before .before .before .shared-slice-known .given i .fits) (c .before .before .before .before .before .pre .0 .0) (c .before .before .before .before .before .pre .1 .0)) in
     ap₂ (λ (n : ℕ) (seen : Search). record { candidate = n; changes = seen .changes; place = seen .place; pattern = seen .pattern }) (c .divide-by-x .ensures)
     (c .before .keep .ensures ∙ ap (λ (b : Bool). kept st b e) here)
 

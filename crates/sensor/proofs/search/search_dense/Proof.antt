@@ -1,0 +1,62 @@
+-- `sensor::search::search_dense` meets its contract. The loop's invariant: the highest dense place of those passed.
+use mathlib.Core.Path.{_≡_, sym, ap, ap₂, _∙_}
+use mathlib.Core.Bool.{Bool}
+use Prim.Native.Nat.{_-_, _≤_}
+use native.Mathlib.Omega.{arith}
+use Rattle.sensor.specs.Verdicts.{Found, denseAt, firstOf, highest}
+use Rattle.sensor.specs.Searching.{foundOf}
+use Rattle.sensor.proofs.Fits.{highest-next}
+use Rattle.sensor.proofs.search.search_dense.Statement.{statement}
+use Rattle.sensor.proofs.search.search_dense.Tie as tie
+
+abbrev Inv-loop : tie.InvT-loop
+Inv-loop c limit from to spot₀ place₀ spot place = (place ≤ to) × (foundOf spot ≡ highest (denseAt c limit) place)
+
+abbrev μ-loop : tie.MeasureT-loop
+μ-loop c limit from to spot₀ place₀ spot place = to - place
+
+loop-holds : tie.Need-loop-holds Inv-loop μ-loop
+loop-holds c = (c .before .pre .1 .0 .0, c .before .pre .1 .1)
+
+dense-at-requires : tie.Need-dense-at-requires Inv-loop μ-loop
+dense-at-requires c κs = (c .before .before .before .pre .0, omega arith)
+
+cast-later : tie.Need-cast-later Inv-loop μ-loop
+cast-later c = omega arith
+
+later-requires : tie.Need-later-requires Inv-loop μ-loop
+later-requires c κs = tt
+
+add-place : tie.Need-add-place Inv-loop μ-loop
+add-place c = omega arith
+
+loop-less : tie.Need-loop-less Inv-loop μ-loop
+loop-less c = omega arith
+
+loop-again : tie.Need-loop-again Inv-loop μ-loop
+loop-again c = (
+  omega arith,
+  c .later .ensures
+      ∙ ap₂ (λ (b : Bool) (f : Found). firstOf b (c .before .before .before .loop .place) f) (c .before .dense-at .ensures) (c .before .before .before .loop .inv .1)
+      ∙ sym (highest-next (denseAt (c .before .before .before .before .before .args .c .now) (c .before .before .before .before .before .args .limit)) (c .before .before .before .loop .place)),
+)
+
+returns : tie.Need-returns Inv-loop μ-loop
+returns c =
+    let all : c .before .loop .place ≡ c .before .before .before .args .to = omega arith in
+    c .before .loop .inv .1 ∙ ap (highest (denseAt (c .before .before .before .args .c .now) (c .before .before .before .args .limit))) all
+
+pub search-dense-spec : {M : Type 1} → statement M
+search-dense-spec =
+    tie.close
+    (tie.spec
+    Inv-loop
+    μ-loop
+    loop-holds
+    dense-at-requires
+    cast-later
+    later-requires
+    add-place
+    loop-less
+    loop-again
+    returns)

@@ -1,0 +1,3 @@
+-- The laws of a window's bits.
+pub mod Meaning
+pub mod Laws
