@@ -6,4 +6,4 @@ pub use Rattle.division.proofs.Shifting.{shl-suc, shl-shl, shl-comm, re
 pub use Rattle.division.proofs.Reading.{message-remainder, remainder-parts, addressRead-remainder, addressRead-lt, address-law, overlay-lt, read-overlay, overlay-read, remainder-by-address, parity-is, overlay-coefficient}
 pub use Rattle.division.proofs.Bytes.{number-nil, number-cons, number-one, number-append, number-split, number-next, number-three, number-message, number-lt, number-injective, part-from, field-is, parityField-is, field-length, parityField-length, parityField-lt, next-bit, bytes-tail, bytes-take, bytes-drop, bytes-append}
 pub use Rattle.division.proofs.Fields.{three-ways}
-pub use Rattle.division.proofs.Tests.{either-left, either-right, refused, passed, passed-value, word-lt, lt-word, message-length, message-length-ge, field-length-le, field-is-field, unless-answer, said-injective, value-is, not-refused, parity-value, remainder-value, address-value, overlay-value, backward-value}
+pub use Rattle.division.proofs.Tests.{either-left, either-right, refused, passed, passed-value, word-lt, lt-word, message-length, message-length-ge, field-length-le, field-is-field, unless-answer, said-injective, value-is, not-refused, parity-value, remainder-value, address-value, overlay-value, backward-value, left-of}

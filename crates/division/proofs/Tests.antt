@@ -1,6 +1,6 @@
 -- The tests that pick an answer: what a test that passed, or failed, makes of the definition that picks by it.
 use mathlib.Core.Path.{_≡_, refl, sym, ap, _∙_}
-use mathlib.Core.Bool.{Bool, true, false}
+use mathlib.Core.Bool.{Bool, true, false, _||_}
 use mathlib.Core.Logic.{_⊎_, inl, inr}
 use mathlib.Core.List.{List, [], _∷_}
 use Prim.Native.Nat.{ℕ, _+_, _<_, _≤_, _^_}
@@ -9,19 +9,19 @@ use lib.Dec.{eqb}
 use lib.ListN.{length}
 use borrow.Author.Tests.{leb-true, eqb-true, le-leb}
 use Rattle.division.specs.Division.{remainder, backward, parity, overlay, addressRead}
-use Rattle.division.specs.Message.{number, either, isMessageLength, isFieldLength}
-use Rattle.division.specs.Answers.{Outcome, unless, isWord, said, parityAnswer, remainderAnswer, addressAnswer, overlayAnswer, backwardAnswer}
+use Rattle.division.specs.Message.{number, isMessageLength, isFieldLength}
+use Rattle.division.specs.Answers.{Outcome, unless, isWord, said, parityAnswer, remainderAnswer, addressAnswer, overlayAnswer, backwardAnswer, left}
 use Rattle.division.specs.Answers.Outcome.{refusal, answer}
 use Rattle.division.specs.declared.Word.{Word}
 use Rattle.division.specs.declared.Word.the-variants.{Value, Refused}
 
-pub either-left : (a b : Bool) → a ≡ true → a ≡ either a b
-either-left a b e = e ∙ ap (λ (t : Bool). either t b) (sym e)
+pub either-left : (a b : Bool) → a ≡ true → a ≡ (a || b)
+either-left a b e = e ∙ ap (λ (t : Bool). t || b) (sym e)
 
-pub either-right : (a b : Bool) → a ≡ false → b ≡ either a b
-either-right a b e = ap (λ (t : Bool). either t b) (sym e)
+pub either-right : (a b : Bool) → a ≡ false → b ≡ (a || b)
+either-right a b e = ap (λ (t : Bool). t || b) (sym e)
 
-either-cases : (a b : Bool) → either a b ≡ true → (a ≡ true) ⊎ (b ≡ true)
+either-cases : (a b : Bool) → (a || b) ≡ true → (a ≡ true) ⊎ (b ≡ true)
 either-cases true b e = inl refl
 either-cases false b e = inr e
 
@@ -119,12 +119,17 @@ pub field-is-field : (n k : ℕ) → isMessageLength n ≡ true → k + 3 ≡ n 
 unfolding isFieldLength
 field-is-field n k e s = cases (message-length n e)
   where
-    cases : (n ≡ 7) ⊎ (n ≡ 14) → either (eqb k 4) (eqb k 11) ≡ true
-    cases (inl p) = let h : k ≡ 4 = omega arith in ap (λ (x : ℕ). either (eqb x 4) (eqb x 11)) h
-    cases (inr p) = let h : k ≡ 11 = omega arith in ap (λ (x : ℕ). either (eqb x 4) (eqb x 11)) h
+    cases : (n ≡ 7) ⊎ (n ≡ 14) → (eqb k 4 || eqb k 11) ≡ true
+    cases (inl p) = let h : k ≡ 4 = omega arith in ap (λ (x : ℕ). eqb x 4 || eqb x 11) h
+    cases (inr p) = let h : k ≡ 11 = omega arith in ap (λ (x : ℕ). eqb x 4 || eqb x 11) h
 
 -- ---- a call that was answered passed its test
 
 pub unless-answer : (t : Bool) (n : ℕ) (a : Outcome) (r : ℕ) (vs : List ℕ) → unless t n a ≡ answer r vs → (t ≡ true) × (a ≡ answer r vs)
 unless-answer true n a r vs e = (refl, e)
 unless-answer false n a r vs e = let z : _≡_ {A = ℕ} 0 1 = cc in absurd (omega arith)
+
+-- ---- what a call leaves in a buffer
+
+pub left-of : (o p : Outcome) (before after : List ℕ) → o ≡ p → left o before after ≡ left p before after
+left-of o p before after e = ap (λ (q : Outcome). left q before after) e

@@ -39,6 +39,11 @@ abbrev pub unless : Bool → ℕ → Outcome → Outcome
 unless true n a = a
 unless false n a = refusal n
 
+-- What a call leaves in a buffer: where it was refused, what stood there before.
+abbrev pub left : Outcome → List ℕ → List ℕ → List ℕ
+left (refusal n) before after = before
+left (answer n vs) before after = after
+
 -- A word, an address or a register has 24 bits (row 3).
 unfoldable pub isWord : ℕ → Bool
 isWord w = leb w 0xFFFFFF

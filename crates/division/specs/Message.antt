@@ -1,7 +1,7 @@
 -- Messages as polynomials, and the parts of a message (document 01, 'Messages and division').
 use Prim.Native.Nat.{ℕ, _+_, _*_, _-_, _/_, _^_, _<_}
 use mathlib.Core.List.{List, [], _∷_}
-use mathlib.Core.Bool.{Bool, true, false}
+use mathlib.Core.Bool.{Bool, true, false, _||_}
 use lib.ListN.{length, getD, take, drop}
 use lib.Dec.{eqb}
 
@@ -33,17 +33,13 @@ abbrev pub bitOf : Bool → ℕ
 bitOf true = 1
 bitOf false = 0
 
-abbrev pub either : Bool → Bool → Bool
-either true b = true
-either false b = b
-
 -- A first bit 0 belongs to 56 bits and 1 to 112 (document 01; row 5 of the refusals).
 unfoldable pub firstBitAgrees : List ℕ → Bool
 firstBitAgrees m = eqb (firstBit m) (bitOf (eqb (length m) 14))
 
 -- A message has 56 or 112 bits, so 7 or 14 bytes, and its field 4 or 11 (document 01; ATC-117, 2.2).
 unfoldable pub isMessageLength : ℕ → Bool
-isMessageLength n = either (eqb n 7) (eqb n 14)
+isMessageLength n = eqb n 7 || eqb n 14
 
 unfoldable pub isFieldLength : ℕ → Bool
-isFieldLength n = either (eqb n 4) (eqb n 11)
+isFieldLength n = eqb n 4 || eqb n 11

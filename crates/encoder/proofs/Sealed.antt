@@ -9,10 +9,9 @@ use lib.ListN.{length, length-append}
 use lib.Seq.{take-at, drop-at}
 use Rattle.division.specs.Division.{parity, overlay}
 use Rattle.division.specs.Message.{number, Bytes, field, parityField}
-use Rattle.division.specs.Answers.{Outcome}
 use Rattle.division.specs.Answers.Outcome.{answer}
-use Rattle.division.proofs.Laws.{number-three, number-append, number-message, number-injective, field-is, parityField-is, field-length, parityField-lt, bytes-take, bytes-append, parity-lt}
-use Rattle.encoder.specs.Seals.{wordBytes, withParity, replyParity, interrogationParity, replySeal, interrogationSeal, sealOutcome, left, replyAfter, interrogationAfter}
+use Rattle.division.proofs.Laws.{number-three, number-append, number-message, number-injective, field-is, parityField-is, field-length, parityField-lt, bytes-take, bytes-append, parity-lt, left-of}
+use Rattle.encoder.specs.Seals.{wordBytes, withParity, replyParity, interrogationParity, replySeal, interrogationSeal, sealOutcome, replyAfter, interrogationAfter}
 
 -- ---- the bytes of a word
 
@@ -88,8 +87,8 @@ reply-lt m w h = xor-lt 24 (parity (number (field m))) w (parity-lt (number (fie
 
 pub reply-after : (m : List ℕ) (w : ℕ) → sealOutcome m w ≡ answer 0 [] → replyAfter m w ≡ replySeal m w
 unfolding replyAfter
-reply-after m w e = ap (λ (o : Outcome). left o m (replySeal m w)) e
+reply-after m w e = left-of _ _ m (replySeal m w) e
 
 pub interrogation-after : (m : List ℕ) (a : ℕ) → sealOutcome m a ≡ answer 0 [] → interrogationAfter m a ≡ interrogationSeal m a
 unfolding interrogationAfter
-interrogation-after m a e = ap (λ (o : Outcome). left o m (interrogationSeal m a)) e
+interrogation-after m a e = left-of _ _ m (interrogationSeal m a) e

@@ -11,7 +11,7 @@ use Rattle.division.specs.Message.{isMessageLength, firstBitAgrees}
 use Rattle.division.specs.Answers.{Outcome, isWord}
 use Rattle.division.specs.Answers.Outcome.{refusal, answer}
 use Rattle.division.proofs.Laws.{refused, passed, unless-answer, word-lt, field-is}
-use Rattle.encoder.specs.Seals.{wordBytes, withParity, sealOutcome, left, said}
+use Rattle.encoder.specs.Seals.{wordBytes, withParity, sealOutcome, said}
 use Rattle.encoder.specs.declared.Seal.{Seal}
 use Rattle.encoder.specs.declared.Seal.the-variants.{Sealed, Refused}
 
@@ -45,14 +45,6 @@ was-accepted m w e =
     let second = unless-answer (isWord w) 3 _ 0 [] (first .1) in
     let third = unless-answer (firstBitAgrees m) 5 _ 0 [] (second .1) in
     (first .0, word-lt w (second .0), third .0)
-
--- ---- the buffer
-
-pub left-refused : (o : Outcome) (n : ℕ) (before after : List ℕ) → refusal n ≡ o → before ≡ left o before after
-left-refused o n before after e = ap (λ (p : Outcome). left p before after) e
-
-pub left-answered : (o : Outcome) (r : ℕ) (vs before after : List ℕ) → answer r vs ≡ o → after ≡ left o before after
-left-answered o r vs before after e = ap (λ (p : Outcome). left p before after) e
 
 -- ---- the parity field
 

@@ -5,7 +5,7 @@ use lib.Bits.{bitXor}
 use lib.ListN.{length}
 use Rattle.division.specs.Division.{parity, overlay}
 use Rattle.division.specs.Message.{number, field, isMessageLength, firstBitAgrees}
-use Rattle.division.specs.Answers.{Outcome, unless, isWord, wrongLength, wordTooLarge, firstBitContradicts}
+use Rattle.division.specs.Answers.{Outcome, unless, left, isWord, wrongLength, wordTooLarge, firstBitContradicts}
 use Rattle.division.specs.Answers.Outcome.{refusal, answer}
 use Rattle.encoder.specs.declared.Seal.{Seal}
 use Rattle.encoder.specs.declared.Seal.the-variants.{Sealed, Refused}
@@ -45,11 +45,6 @@ sealOutcome m w =
 abbrev pub said : Seal → Outcome
 said Sealed = answer 0 []
 said (Refused n) = refusal n
-
--- What a call leaves in a buffer: where it was refused, what stood there before.
-abbrev pub left : Outcome → List ℕ → List ℕ → List ℕ
-left (refusal n) before after = before
-left (answer n vs) before after = after
 
 unfoldable pub replyAfter : List ℕ → ℕ → List ℕ
 replyAfter m w = left (sealOutcome m w) m (replySeal m w)

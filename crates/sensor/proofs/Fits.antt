@@ -3,7 +3,7 @@
 -- after the other says which of them fit, and whether they invert the same message bits (`search-seen`).
 use mathlib.Core.Path.{_≡_, refl, sym, ap, ap₂, _∙_, subst}
 use mathlib.Core.Logic.{_⊎_, inl, inr}
-use mathlib.Core.Bool.{Bool, true, false}
+use mathlib.Core.Bool.{Bool, true, false, cond}
 use mathlib.Core.List.{List}
 use Prim.Native.Nat.{ℕ, zero, suc, _+_, _-_, _*_, _/_, _^_, _<_, _≤_}
 use native.Mathlib.Nat.{add-suc, add-zero, zero-add, mul-one, zero-mul, eq-or-lt-of-le, le-of-suc-le-suc, not-suc-le-zero, zero-lt-suc, lt-trans, le-refl, lt-irrefl, lt-of-lt-of-le, le-suc, le-trans, le-of-eq, one-mul, mul-le-mul-right}
@@ -18,7 +18,7 @@ use Rattle.division.proofs.Laws.{remainder-zero, remainder-small, remainder-shl
 use Rattle.sensor.specs.Changes.{marksAt}
 use Rattle.sensor.specs.Verdicts.{firstOf, highest, candidate, changeAt, fitsAt}
 use Rattle.sensor.specs.Verdicts.Found.{nowhere, at}
-use Rattle.sensor.specs.Searching.{Sound, pickNumber, counted, noted, kept, visited, searchTo}
+use Rattle.sensor.specs.Searching.{Sound, counted, noted, kept, visited, searchTo}
 use Rattle.sensor.specs.declared.search.Search.{Search}
 
 -- ---- the candidate
@@ -182,7 +182,7 @@ fit-more : (c : List ℕ) (s k : ℕ) (st : Search) (n : ℕ) → fitsAt c s k �
 unfolding changeAt
 fit-more c s k st n f e (none z h) =
     subst (λ (m : ℕ). Seen c s (suc k) (after k (candidate s k) n m))
-    (sym (ap (λ (b : Bool). pickNumber b 1 (pickNumber (eqb (st .pattern * 2 ^ st .place) (st .candidate * 2 ^ k)) (st .changes) 2)) (eq-eqb (st .changes) 0 z)))
+    (sym (ap (λ (b : Bool). cond b 1 (cond (eqb (st .pattern * 2 ^ st .place) (st .candidate * 2 ^ k)) (st .changes) 2)) (eq-eqb (st .changes) 0 z)))
     (first-fit c s k n f h)
 fit-more c s k st n f e (one z t h) = by (eqb (st .pattern * 2 ^ st .place) (st .candidate * 2 ^ k)) refl
   where
@@ -192,10 +192,10 @@ fit-more c s k st n f e (one z t h) = by (eqb (st .pattern * 2 ^ st .place) (st 
     there : st .candidate * 2 ^ k ≡ changeAt s k
     there = ap (λ (p : ℕ). p * 2 ^ k) e
 
-    count : (b : Bool) → eqb (st .pattern * 2 ^ st .place) (st .candidate * 2 ^ k) ≡ b → counted st k ≡ pickNumber b 1 2
+    count : (b : Bool) → eqb (st .pattern * 2 ^ st .place) (st .candidate * 2 ^ k) ≡ b → counted st k ≡ cond b 1 2
     count b q =
-        ap₂ (λ (u v : Bool). pickNumber u 1 (pickNumber v (st .changes) 2)) (ap (λ (m : ℕ). eqb m 0) z) q
-        ∙ ap (λ (m : ℕ). pickNumber b m 2) z
+        ap₂ (λ (u v : Bool). cond u 1 (cond v (st .changes) 2)) (ap (λ (m : ℕ). eqb m 0) z) q
+        ∙ ap (λ (m : ℕ). cond b m 2) z
 
     by : (b : Bool) → eqb (st .pattern * 2 ^ st .place) (st .candidate * 2 ^ k) ≡ b → Seen c s (suc k) (after k (candidate s k) n (counted st k))
     by true q =
@@ -208,8 +208,8 @@ fit-more c s k st n f e (one z t h) = by (eqb (st .pattern * 2 ^ st .place) (st 
 fit-more c s k st n f e (many z t i l p d) = by (eqb (changeAt s i) (changeAt s k)) refl
   where
     count : (b : Bool) → eqb (st .pattern * 2 ^ st .place) (st .candidate * 2 ^ k) ≡ b → counted st k ≡ 2
-    count true q = ap₂ (λ (u v : Bool). pickNumber u 1 (pickNumber v (st .changes) 2)) (ap (λ (m : ℕ). eqb m 0) z) q ∙ z
-    count false q = ap₂ (λ (u v : Bool). pickNumber u 1 (pickNumber v (st .changes) 2)) (ap (λ (m : ℕ). eqb m 0) z) q
+    count true q = ap₂ (λ (u v : Bool). cond u 1 (cond v (st .changes) 2)) (ap (λ (m : ℕ). eqb m 0) z) q ∙ z
+    count false q = ap₂ (λ (u v : Bool). cond u 1 (cond v (st .changes) 2)) (ap (λ (m : ℕ). eqb m 0) z) q
 
     two : Seen c s (suc k) (after k (candidate s k) n 2) → Seen c s (suc k) (after k (candidate s k) n (counted st k))
     two seen =

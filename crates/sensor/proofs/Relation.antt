@@ -2,7 +2,7 @@
 -- it is the candidate's and the test of the window's place passes; and the highest place is the lowest window.
 use mathlib.Core.Path.{_≡_, refl, sym, ap, ap₂, _∙_, subst}
 use mathlib.Core.Logic.{_⊎_, inl, inr}
-use mathlib.Core.Bool.{Bool, true, false, not}
+use mathlib.Core.Bool.{Bool, true, false, not, _&&_}
 use mathlib.Core.List.{List}
 use Prim.Native.Nat.{ℕ, zero, suc, _+_, _-_, _*_, _/_, _%_, _^_, _<_, _≤_}
 use native.Mathlib.Nat.{mod-lt, add-zero, zero-add, le-of-suc-le-suc, not-suc-le-zero, eq-or-lt-of-le}
@@ -16,7 +16,7 @@ use Rattle.division.specs.Division.{remainder}
 use Rattle.division.specs.Message.{number}
 use Rattle.division.proofs.Laws.{xor-cancel, xor-move, remainder-xor, window-unique}
 use Rattle.sensor.specs.Changes.{lastWindow, place, Carries, InWindow, OnLow, Fit, marksAt, lowMarks}
-use Rattle.sensor.specs.Verdicts.{firstOf, highest, syndrome, candidate, changeAt, denseAt, fitsAt, differsAt, both}
+use Rattle.sensor.specs.Verdicts.{firstOf, highest, syndrome, candidate, changeAt, denseAt, fitsAt, differsAt}
 use Rattle.sensor.specs.Verdicts.Found.{nowhere, at}
 use Rattle.sensor.proofs.Fits.{candidate-lt, candidate-law, candidate-pos}
 use Rattle.sensor.proofs.Rows.{syndrome-lt}
@@ -157,11 +157,11 @@ differs-is c s e i h = by (fitsAt c s i) refl
     by : (b : Bool) → fitsAt c s i ≡ b → (fitsAt c s i ≡ true) × (changeAt s i ≡ changeAt s e → ⊥)
     by true q = (
       q,
-      λ z. let bad : true ≡ false = sym h ∙ ap₂ both q (ap not (eq-eqb (changeAt s i) (changeAt s e) z)) in
+      λ z. let bad : true ≡ false = sym h ∙ ap₂ (λ (t u : Bool). t && u) q (ap not (eq-eqb (changeAt s i) (changeAt s e) z)) in
           let n : _≡_ {A = ℕ} 0 1 = cc in omega arith,
     )
     by false q =
-        let bad : true ≡ false = sym h ∙ ap (λ (b : Bool). both b (not (eqb (changeAt s i) (changeAt s e)))) q in
+        let bad : true ≡ false = sym h ∙ ap (λ (b : Bool). b && not (eqb (changeAt s i) (changeAt s e))) q in
         let n : _≡_ {A = ℕ} 0 1 = cc in absurd (omega arith)
 
 pub same-is : (c : List ℕ) (s e i : ℕ) → differsAt c s e i ≡ false → fitsAt c s i ≡ true → changeAt s i ≡ changeAt s e
@@ -171,7 +171,7 @@ same-is c s e i h f = by (eqb (changeAt s i) (changeAt s e)) refl
     by : (b : Bool) → eqb (changeAt s i) (changeAt s e) ≡ b → changeAt s i ≡ changeAt s e
     by true q = eqb-true (changeAt s i) (changeAt s e) q
     by false q =
-        let bad : true ≡ false = sym (ap₂ both f (ap not q)) ∙ h in
+        let bad : true ≡ false = sym (ap₂ (λ (t u : Bool). t && u) f (ap not q)) ∙ h in
         let n : _≡_ {A = ℕ} 0 1 = cc in absurd (omega arith)
 
 -- ---- the ones of a change are the ones of its pattern

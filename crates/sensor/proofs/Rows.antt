@@ -2,7 +2,7 @@
 -- the checks of a call make of its outcome.
 use mathlib.Core.Path.{_≡_, refl, sym, ap, ap₂, _∙_, subst}
 use mathlib.Core.Logic.{_⊎_, inl, inr}
-use mathlib.Core.Bool.{Bool, true, false, not}
+use mathlib.Core.Bool.{Bool, true, false, not, _&&_}
 use mathlib.Core.List.{List, [], _∷_}
 use Prim.Native.Nat.{ℕ, zero, suc, _-_, _*_, _^_, _<_, _≤_}
 use native.Mathlib.Nat.{le-of-suc-le-suc, zero-lt-suc}
@@ -14,11 +14,11 @@ use lib.ListN.{length}
 use borrow.Author.Tests.{eqb-true, eq-eqb, ne-eqb}
 use Rattle.division.specs.Division.{remainder}
 use Rattle.division.specs.Message.{number, isMessageLength}
-use Rattle.division.specs.Answers.{Outcome, unless, isWord}
+use Rattle.division.specs.Answers.{Outcome, unless, left, isWord}
 use Rattle.division.specs.Answers.Outcome.{refusal, answer}
-use Rattle.division.proofs.Laws.{passed, unless-answer, word-lt, message-length, remainder-lt}
+use Rattle.division.proofs.Laws.{passed, left-of, unless-answer, word-lt, message-length, remainder-lt}
 use Rattle.sensor.specs.Changes.{lastWindow}
-use Rattle.sensor.specs.Verdicts.{Found, highest, candidate, changeAt, fitsAt, differsAt, both, Row, fitRow, denseRow, cleanRow, fitsRow, hitRow, rowOf, markNumber, rowAnswer, rowMessage, inverted, syndrome, checked, sensorOutcome, sensorAfter, left, denseAt}
+use Rattle.sensor.specs.Verdicts.{Found, highest, candidate, changeAt, fitsAt, differsAt, Row, fitRow, denseRow, cleanRow, fitsRow, hitRow, rowOf, markNumber, rowAnswer, rowMessage, inverted, syndrome, checked, sensorOutcome, sensorAfter, denseAt}
 use Rattle.sensor.specs.Verdicts.Found.{nowhere, at}
 use Rattle.sensor.specs.Verdicts.Row.{clean, dense, noFit, corrected}
 use Rattle.sensor.specs.Searching.{markFor}
@@ -32,13 +32,13 @@ not-different : (c : List ℕ) (s e i : ℕ) → (fitsAt c s i ≡ true → chan
 unfolding differsAt
 not-different c s e i h = by (fitsAt c s i) refl
   where
-    by : (b : Bool) → fitsAt c s i ≡ b → both (fitsAt c s i) (not (eqb (changeAt s i) (changeAt s e))) ≡ false
-    by true q = ap₂ both q (ap not (eq-eqb (changeAt s i) (changeAt s e) (h q)))
-    by false q = ap (λ (b : Bool). both b (not (eqb (changeAt s i) (changeAt s e)))) q
+    by : (b : Bool) → fitsAt c s i ≡ b → (fitsAt c s i && not (eqb (changeAt s i) (changeAt s e))) ≡ false
+    by true q = ap₂ (λ (t u : Bool). t && u) q (ap not (eq-eqb (changeAt s i) (changeAt s e) (h q)))
+    by false q = ap (λ (b : Bool). b && not (eqb (changeAt s i) (changeAt s e))) q
 
 different : (c : List ℕ) (s e i : ℕ) → fitsAt c s i ≡ true → (changeAt s i ≡ changeAt s e → ⊥) → differsAt c s e i ≡ true
 unfolding differsAt
-different c s e i f d = ap₂ both f (ap not (ne-eqb (changeAt s i) (changeAt s e) d))
+different c s e i f d = ap₂ (λ (t u : Bool). t && u) f (ap not (ne-eqb (changeAt s i) (changeAt s e) d))
 
 -- what a correction is made of, from the state at the end of the search
 pub record Mended (c : List ℕ) (s : ℕ) (st : Search) : Type 0 where
@@ -162,14 +162,11 @@ module _ (m c : List ℕ) (s : ℕ) (st : Search) (t : Mended c s st) where
 
 -- ---- the message after the call
 
-pub left-refused : (o : Outcome) (n : ℕ) (before after : List ℕ) → refusal n ≡ o → before ≡ left o before after
-left-refused o n before after e = ap (λ (p : Outcome). left p before after) e
-
-pub left-answered : (m after : List ℕ) (s : ℕ) (r : Row) → after ≡ left (rowAnswer m s r) m after
-left-answered m after s clean = refl
-left-answered m after s (dense e) = refl
-left-answered m after s noFit = refl
-left-answered m after s (corrected e o) = refl
+pub row-left : (m after : List ℕ) (s : ℕ) (r : Row) → after ≡ left (rowAnswer m s r) m after
+row-left m after s clean = refl
+row-left m after s (dense e) = refl
+row-left m after s noFit = refl
+row-left m after s (corrected e o) = refl
 
 -- ---- the syndrome
 
@@ -210,13 +207,13 @@ outcome-row m c w l ok = ok .outcome (rowAnswer m (syndrome m w) (rowOf m c w l)
 pub after-row : (m c : List ℕ) (w l : ℕ) → Admitted (length m) (length c) w l → sensorAfter m c w l ≡ rowMessage m (syndrome m w) (rowOf m c w l)
 unfolding sensorAfter
 after-row m c w l ok =
-    ap (λ (o : Outcome). left o m (rowMessage m (syndrome m w) (rowOf m c w l))) (outcome-row m c w l ok)
-    ∙ sym (left-answered m (rowMessage m (syndrome m w) (rowOf m c w l)) (syndrome m w) (rowOf m c w l))
+    left-of _ _ m (rowMessage m (syndrome m w) (rowOf m c w l)) (outcome-row m c w l ok)
+    ∙ sym (row-left m (rowMessage m (syndrome m w) (rowOf m c w l)) (syndrome m w) (rowOf m c w l))
 
 -- a call that was refused leaves the message
 pub after-refused : (m c : List ℕ) (w l n : ℕ) → sensorOutcome m c w l ≡ refusal n → sensorAfter m c w l ≡ m
 unfolding sensorAfter
-after-refused m c w l n e = ap (λ (o : Outcome). left o m (rowMessage m (syndrome m w) (rowOf m c w l))) e
+after-refused m c w l n e = left-of _ _ m (rowMessage m (syndrome m w) (rowOf m c w l)) e
 
 -- ---- the row of the fits
 

@@ -2,7 +2,7 @@
 -- `search-seen` (proofs/Fits.antt).
 use Prim.Native.Nat.{ℕ, zero, suc, _*_, _^_, _<_, _≤_}
 use mathlib.Core.List.{List, []}
-use mathlib.Core.Bool.{Bool, true, false}
+use mathlib.Core.Bool.{Bool, cond}
 use lib.Bits.{bitAnd}
 use lib.Dec.{eqb}
 use Rattle.division.specs.Division.{backward}
@@ -26,25 +26,17 @@ foundOf (At e) = at e
 unfoldable pub Sound : Search → ℕ → Type 0
 Sound st e = ((0 < st .candidate) × (st .candidate < 2 ^ 24)) × ((st .place ≤ e) × (st .pattern < 2 ^ 24))
 
-abbrev pub pickNumber : Bool → ℕ → ℕ → ℕ
-pickNumber true a b = a
-pickNumber false a b = b
-
-abbrev pub pickState : Bool → Search → Search → Search
-pickState true a b = a
-pickState false a b = b
-
 -- how many changes fit, with one fit more at place e
 abbrev pub counted : Search → ℕ → ℕ
 counted st e =
-    pickNumber (eqb (st .changes) 0) 1
-    (pickNumber (eqb (st .pattern * 2 ^ st .place) (st .candidate * 2 ^ e)) (st .changes) 2)
+    cond (eqb (st .changes) 0) 1
+    (cond (eqb (st .pattern * 2 ^ st .place) (st .candidate * 2 ^ e)) (st .changes) 2)
 
 unfoldable pub noted : Search → ℕ → Search
 noted st e = record { candidate = st .candidate; changes = counted st e; place = e; pattern = st .candidate }
 
 abbrev pub kept : Search → Bool → ℕ → Search
-kept st here e = pickState here (noted st e) st
+kept st here e = cond here (noted st e) st
 
 -- the state after the window at place e
 unfoldable pub visited : List ℕ → Search → ℕ → Search
@@ -59,7 +51,7 @@ searchTo c s (suc k) = visited c (searchTo c s k) k
 
 -- the mark for a number of changes: sole for one
 abbrev pub markFor : ℕ → ℕ
-markFor n = pickNumber (eqb n 1) 1 2
+markFor n = cond (eqb n 1) 1 2
 
 -- what the check of a call says
 abbrev pub checkSaid : Admission → Outcome

@@ -6,14 +6,14 @@
 -- for each place.
 use Prim.Native.Nat.{ℕ, zero, suc, _-_, _*_, _/_, _%_, _^_}
 use mathlib.Core.List.{List, [], _∷_}
-use mathlib.Core.Bool.{Bool, true, false, not}
+use mathlib.Core.Bool.{Bool, true, false, not, _&&_}
 use lib.Bits.{bitAnd, bitXor}
 use lib.Count.{ones}
 use lib.Dec.{eqb, ltb, leb}
 use lib.ListN.{length}
 use Rattle.division.specs.Division.{remainder, backward}
 use Rattle.division.specs.Message.{number, isMessageLength}
-use Rattle.division.specs.Answers.{Outcome, unless, isWord, wrongLength, wrongConfidenceLength, wordTooLarge, limitTooLarge}
+use Rattle.division.specs.Answers.{Outcome, unless, left, isWord, wrongLength, wrongConfidenceLength, wordTooLarge, limitTooLarge}
 use Rattle.division.specs.Answers.Outcome.{refusal, answer}
 use Rattle.sensor.specs.Changes.{lastWindow, marksAt}
 use Rattle.sensor.specs.declared.Mark.{Mark}
@@ -56,12 +56,8 @@ denseAt c l e = ltb l (ones (marksAt c e))
 unfoldable pub fitsAt : List ℕ → ℕ → ℕ → Bool
 fitsAt c s e = eqb (bitAnd (candidate s e) (marksAt c e)) (candidate s e)
 
-abbrev pub both : Bool → Bool → Bool
-both true b = b
-both false b = false
-
 unfoldable pub differsAt : List ℕ → ℕ → ℕ → ℕ → Bool
-differsAt c s e e′ = both (fitsAt c s e′) (not (eqb (changeAt s e′) (changeAt s e)))
+differsAt c s e e′ = fitsAt c s e′ && not (eqb (changeAt s e′) (changeAt s e))
 
 -- ---- the rows of document 01
 
@@ -138,12 +134,7 @@ checked n k w l a =
 unfoldable pub sensorOutcome : List ℕ → List ℕ → ℕ → ℕ → Outcome
 sensorOutcome m c w l = checked (length m) (length c) w l (rowAnswer m (syndrome m w) (rowOf m c w l))
 
--- What a call leaves in the message: where it was refused, what stood there before.
-abbrev pub left : Outcome → List ℕ → List ℕ → List ℕ
-left (refusal n) before after = before
-left (answer n vs) before after = after
-
--- The message after the call.
+-- The message after the call: where it was refused, as it was before.
 unfoldable pub sensorAfter : List ℕ → List ℕ → ℕ → ℕ → List ℕ
 sensorAfter m c w l = left (sensorOutcome m c w l) m (rowMessage m (syndrome m w) (rowOf m c w l))
 

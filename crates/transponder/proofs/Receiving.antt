@@ -1,6 +1,6 @@
 -- How the transponder's definitions split: the outcome by its tests, and the reading by the address and the format.
 use mathlib.Core.Path.{_≡_, refl, sym, ap, ap₂, _∙_}
-use mathlib.Core.Bool.{Bool, true, false, not}
+use mathlib.Core.Bool.{Bool, true, false, not, cond, _&&_, _||_}
 use mathlib.Core.List.{List, [], _∷_}
 use Prim.Native.Nat.{ℕ, _<_, _^_}
 use native.Mathlib.Omega.{arith}
@@ -8,11 +8,11 @@ use lib.Dec.{eqb}
 use lib.ListN.{length}
 use borrow.Author.Tests.{eq-eqb, ne-eqb, eqb-true, eqb-false, not-true}
 use Rattle.division.specs.Division.{addressRead}
-use Rattle.division.specs.Message.{number, either, formatNumber, isMessageLength, firstBitAgrees}
+use Rattle.division.specs.Message.{number, formatNumber, isMessageLength, firstBitAgrees}
 use Rattle.division.specs.Answers.{Outcome, unless, isWord}
 use Rattle.division.specs.Answers.Outcome.{refusal, answer}
 use Rattle.division.proofs.Laws.{refused, passed, word-lt}
-use Rattle.transponder.specs.Receptions.{everyone, allCallFormat, both, pick, reading, isReserved, receptionOutcome, said}
+use Rattle.transponder.specs.Receptions.{everyone, allCallFormat, reading, isReserved, receptionOutcome, said}
 use Rattle.transponder.specs.declared.Reception.{Reception}
 use Rattle.transponder.specs.declared.Reception.the-variants.{Own, AllCall, NotOurs, Refused}
 
@@ -20,29 +20,29 @@ use Rattle.transponder.specs.declared.Reception.the-variants.{Own, AllCa
 
 -- what is left where the address read is not the own address
 abbrev others : ℕ → ℕ → Outcome
-others a f = pick (both (eqb a everyone) (eqb f allCallFormat)) (answer 2 []) (answer 3 (a ∷ []))
+others a f = cond (eqb a everyone && eqb f allCallFormat) (answer 2 []) (answer 3 (a ∷ []))
 
 pub reading-own : (own a f : ℕ) → a ≡ own → answer 1 [] ≡ reading own a f
 unfolding reading
-reading-own own a f e = sym (ap (λ (t : Bool). pick t (answer 1 []) (others a f)) (eq-eqb a own e))
+reading-own own a f e = sym (ap (λ (t : Bool). cond t (answer 1 []) (others a f)) (eq-eqb a own e))
 
 other : (own a f : ℕ) → (a ≡ own → ⊥) → others a f ≡ reading own a f
 unfolding reading
-other own a f n = sym (ap (λ (t : Bool). pick t (answer 1 []) (others a f)) (ne-eqb a own n))
+other own a f n = sym (ap (λ (t : Bool). cond t (answer 1 []) (others a f)) (ne-eqb a own n))
 
 pub reading-all-call : (own a f : ℕ) → (a ≡ own → ⊥) → a ≡ everyone → f ≡ allCallFormat → answer 2 [] ≡ reading own a f
 reading-all-call own a f n e g =
-    sym (ap₂ (λ (s t : Bool). pick (both s t) (answer 2 []) (answer 3 (a ∷ []))) (eq-eqb a everyone e) (eq-eqb f allCallFormat g))
+    sym (ap₂ (λ (s t : Bool). cond (s && t) (answer 2 []) (answer 3 (a ∷ []))) (eq-eqb a everyone e) (eq-eqb f allCallFormat g))
     ∙ other own a f n
 
 pub reading-other-format : (own a f : ℕ) → (a ≡ own → ⊥) → a ≡ everyone → (f ≡ allCallFormat → ⊥) → answer 3 (a ∷ []) ≡ reading own a f
 reading-other-format own a f n e g =
-    sym (ap₂ (λ (s t : Bool). pick (both s t) (answer 2 []) (answer 3 (a ∷ []))) (eq-eqb a everyone e) (ne-eqb f allCallFormat g))
+    sym (ap₂ (λ (s t : Bool). cond (s && t) (answer 2 []) (answer 3 (a ∷ []))) (eq-eqb a everyone e) (ne-eqb f allCallFormat g))
     ∙ other own a f n
 
 pub reading-other-address : (own a f : ℕ) → (a ≡ own → ⊥) → (a ≡ everyone → ⊥) → answer 3 (a ∷ []) ≡ reading own a f
 reading-other-address own a f n e =
-    sym (ap (λ (s : Bool). pick (both s (eqb f allCallFormat)) (answer 2 []) (answer 3 (a ∷ []))) (ne-eqb a everyone e))
+    sym (ap (λ (s : Bool). cond (s && eqb f allCallFormat) (answer 2 []) (answer 3 (a ∷ []))) (ne-eqb a everyone e))
     ∙ other own a f n
 
 -- ---- the outcome
@@ -127,7 +127,7 @@ received own m h =
     tested true i a f = (refl, f)
     tested false i a f = absurd (f i refl)
 
-    either-second : (a b : Bool) → b ≡ true → either a b ≡ true
+    either-second : (a b : Bool) → b ≡ true → (a || b) ≡ true
     either-second true b e = refl
     either-second false b e = e
 

@@ -1,11 +1,11 @@
 -- What a transponder makes of an interrogation (document 01, 'Transponder'; ATC-117, 3.1).
 use Prim.Native.Nat.{ℕ}
 use mathlib.Core.List.{List, [], _∷_}
-use mathlib.Core.Bool.{Bool, true, false, not}
+use mathlib.Core.Bool.{Bool, cond, not, _&&_, _||_}
 use lib.Dec.{eqb}
 use lib.ListN.{length}
 use Rattle.division.specs.Division.{addressRead}
-use Rattle.division.specs.Message.{number, either, formatNumber, isMessageLength, firstBitAgrees}
+use Rattle.division.specs.Message.{number, formatNumber, isMessageLength, firstBitAgrees}
 use Rattle.division.specs.Answers.{Outcome, unless, isWord, wrongLength, wordTooLarge, firstBitContradicts, ownAddressReserved}
 use Rattle.division.specs.Answers.Outcome.{refusal, answer}
 use Rattle.transponder.specs.declared.Reception.{Reception}
@@ -19,25 +19,17 @@ everyone = 0xFFFFFF
 abbrev pub allCallFormat : ℕ
 allCallFormat = 11
 
-abbrev pub both : Bool → Bool → Bool
-both true b = b
-both false b = false
-
-abbrev pub pick : Bool → Outcome → Outcome → Outcome
-pick true a b = a
-pick false a b = b
-
 -- The three answers, with document 01's numbers in the order of its list: own is 1; all-call is 2; not ours, with the
 -- address read, is 3.
 unfoldable pub reading : ℕ → ℕ → ℕ → Outcome
 reading own address format =
-    pick (eqb address own) (answer 1 [])
-    (pick (both (eqb address everyone) (eqb format allCallFormat)) (answer 2 [])
+    cond (eqb address own) (answer 1 [])
+    (cond (eqb address everyone && eqb format allCallFormat) (answer 2 [])
     (answer 3 (address ∷ [])))
 
 -- The own address is neither 000000 nor FFFFFF (row 6).
 unfoldable pub isReserved : ℕ → Bool
-isReserved own = either (eqb own 0) (eqb own everyone)
+isReserved own = eqb own 0 || eqb own everyone
 
 -- What the transponder answers: rows 1, 3, 5 and 6 of the refusals, or what it reads.
 unfoldable pub receptionOutcome : ℕ → List ℕ → Outcome

@@ -6,9 +6,9 @@ use lib.Bits.{bitXor}
 use borrow.Author.Needs.{needs}
 use Rattle.division.specs.Division.{parity}
 use Rattle.division.specs.Message.{number, field}
-use Rattle.division.proofs.Laws.{overlay-lt}
+use Rattle.division.proofs.Laws.{overlay-lt, left-of}
 use Rattle.encoder.specs.Seals.{withParity, interrogationParity, interrogationSeal, interrogationAfter}
-use Rattle.encoder.proofs.Sealing.{was-accepted, left-refused, left-answered, sealed-said, refused-said}
+use Rattle.encoder.proofs.Sealing.{was-accepted, sealed-said, refused-said}
 use Rattle.encoder.proofs.seal_interrogation.Statement.{statement}
 use Rattle.encoder.proofs.seal_interrogation.Tie as tie
 
@@ -37,7 +37,7 @@ returns : tie.Need-returns
 unfolding interrogationAfter
 returns c =
     let e = refused-said _ _ _ (c .before .checked .given .1) (c .before .before .before .check .ensures) in
-    (e, left-refused _ _ _ _ e)
+    (e, left-of _ _ _ _ e)
 
 same-length-2 : tie.Need-same-length-2
 same-length-2 c = search needs
@@ -47,7 +47,7 @@ unfolding interrogationAfter interrogationSeal interrogationParity
 returns-2 c =
     let m : List ℕ = c .before .before .before .before .before .before .before .before .before .before .args .m .now in
     let e = sealed-said _ _ (c .before .before .before .before .before .enum-told .given .1) (c .before .before .before .before .before .before .before .check .ensures) in
-    (e, c .before .before .write-parity .ensures ∙ ap (λ (o : ℕ). withParity m (bitXor (parity (number (field m))) o)) (c .before .before .before .address-overlay .ensures) ∙ left-answered _ _ _ _ _ e)
+    (e, c .before .before .write-parity .ensures ∙ ap (λ (o : ℕ). withParity m (bitXor (parity (number (field m))) o)) (c .before .before .before .address-overlay .ensures) ∙ left-of _ _ _ _ e)
 
 pub seal-interrogation-spec : {M : Type 1} → statement M
 seal-interrogation-spec =

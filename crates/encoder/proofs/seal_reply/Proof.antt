@@ -4,7 +4,8 @@ use mathlib.Core.List.{List}
 use Prim.Native.Nat.{ℕ}
 use borrow.Author.Needs.{needs}
 use Rattle.encoder.specs.Seals.{replyParity, replySeal, replyAfter}
-use Rattle.encoder.proofs.Sealing.{was-accepted, left-refused, left-answered, sealed-said, refused-said}
+use Rattle.division.proofs.Laws.{left-of}
+use Rattle.encoder.proofs.Sealing.{was-accepted, sealed-said, refused-said}
 use Rattle.encoder.proofs.seal_reply.Statement.{statement}
 use Rattle.encoder.proofs.seal_reply.Tie as tie
 
@@ -29,7 +30,7 @@ returns : tie.Need-returns
 unfolding replyAfter
 returns c =
     let e = refused-said _ _ _ (c .before .checked .given .1) (c .before .before .before .check .ensures) in
-    (e, left-refused _ _ _ _ e)
+    (e, left-of _ _ _ _ e)
 
 same-length-2 : tie.Need-same-length-2
 same-length-2 c = search needs
@@ -39,7 +40,7 @@ unfolding replyAfter replySeal replyParity
 returns-2 c =
     let m : List ℕ = c .before .before .before .before .before .before .before .before .before .args .m .now in
     let e = sealed-said _ _ (c .before .before .before .before .enum-told .given .1) (c .before .before .before .before .before .before .check .ensures) in
-    (e, c .before .before .write-parity .ensures ∙ left-answered _ _ _ _ _ e)
+    (e, c .before .before .write-parity .ensures ∙ left-of _ _ _ _ e)
 
 pub seal-reply-spec : {M : Type 1} → statement M
 seal-reply-spec =

@@ -4,10 +4,10 @@ use mathlib.Core.List.{List}
 use Prim.Native.Nat.{ℕ}
 use lib.ListN.{length}
 use borrow.Author.Needs.{needs}
-use Rattle.division.specs.Answers.{Outcome}
-use Rattle.sensor.specs.Verdicts.{syndrome, rowOf, rowAnswer, rowMessage, sensorOutcome, sensorAfter, left}
+use Rattle.division.proofs.Laws.{left-of}
+use Rattle.sensor.specs.Verdicts.{syndrome, rowOf, rowAnswer, rowMessage, sensorOutcome, sensorAfter}
 use Rattle.sensor.specs.Searching.{checkSaid}
-use Rattle.sensor.proofs.Rows.{Admitted, admitted, refused-anyhow, left-refused, left-answered}
+use Rattle.sensor.proofs.Rows.{Admitted, admitted, refused-anyhow, row-left}
 use Rattle.sensor.proofs.correct.Statement.{statement}
 use Rattle.sensor.proofs.correct.Tie as tie
 
@@ -33,7 +33,7 @@ returns : tie.Need-returns
 unfolding sensorOutcome sensorAfter
 returns c =
     let e = refused-anyhow _ _ _ _ _ _ (ap checkSaid (sym (c .before .checked .given .1)) ∙ c .before .before .before .check .ensures) in
-    (e, left-refused _ _ _ _ e)
+    (e, left-of _ _ _ _ e)
 
 same-length : tie.Need-same-length
 same-length c = search needs
@@ -49,8 +49,8 @@ returns-2 c =
     let s : ℕ = syndrome m w in
     let o = ok .outcome (rowAnswer m s (rowOf m k w l)) in (
       c .before .before .judge .ensures .0 ∙ sym o,
-      c .before .before .judge .ensures .1 ∙ left-answered m (rowMessage m s (rowOf m k w l)) s (rowOf m k w l)
-          ∙ sym (ap (λ (p : Outcome). left p m (rowMessage m s (rowOf m k w l))) o),
+      c .before .before .judge .ensures .1 ∙ row-left m (rowMessage m s (rowOf m k w l)) s (rowOf m k w l)
+          ∙ left-of _ _ m (rowMessage m s (rowOf m k w l)) (sym o),
     )
 
 pub correct-spec : {M : Type 1} → statement M

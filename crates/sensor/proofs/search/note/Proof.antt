@@ -1,10 +1,10 @@
 -- `sensor::search::note` meets its contract.
 use mathlib.Core.Path.{_≡_, sym, ap, ap₂, _∙_}
-use mathlib.Core.Bool.{Bool}
+use mathlib.Core.Bool.{Bool, cond}
 use Prim.Native.Nat.{ℕ, _*_, _^_}
 use lib.Dec.{eqb}
 use borrow.Author.Tests.{eq-eqb, ne-eqb}
-use Rattle.sensor.specs.Searching.{Sound, pickNumber, counted, noted}
+use Rattle.sensor.specs.Searching.{Sound, counted, noted}
 use Rattle.sensor.specs.declared.search.Search.{Search}
 use Rattle.sensor.proofs.search.note.Statement.{statement}
 use Rattle.sensor.proofs.search.note.Tie as tie
@@ -14,8 +14,8 @@ counting : (st : Search) (e n : ℕ) → n ≡ counted st e
 unfolding noted
 counting st e n q = ap (λ (m : ℕ). record { candidate = st .candidate; changes = m; place = e; pattern = st .candidate }) q
 
-more : (st : Search) (e : ℕ) (b : Bool) → (st .changes ≡ 0 → ⊥) → eqb (st .pattern * 2 ^ st .place) (st .candidate * 2 ^ e) ≡ b → pickNumber b (st .changes) 2 ≡ counted st e
-more st e b n q = sym (ap₂ (λ (u v : Bool). pickNumber u 1 (pickNumber v (st .changes) 2)) (ne-eqb (st .changes) 0 n) q)
+more : (st : Search) (e : ℕ) (b : Bool) → (st .changes ≡ 0 → ⊥) → eqb (st .pattern * 2 ^ st .place) (st .candidate * 2 ^ e) ≡ b → cond b (st .changes) 2 ≡ counted st e
+more st e b n q = sym (ap₂ (λ (u v : Bool). cond u 1 (cond v (st .changes) 2)) (ne-eqb (st .changes) 0 n) q)
 
 same-change-requires : tie.Need-same-change-requires
 unfolding Sound
@@ -25,7 +25,7 @@ returns : tie.Need-returns
 returns c =
     let st = c .before .args .state in
     counting st (c .before .args .place) 1
-    (sym (ap (λ (b : Bool). pickNumber b 1 (pickNumber (eqb (st .pattern * 2 ^ st .place) (st .candidate * 2 ^ c .before .args .place)) (st .changes) 2)) (eq-eqb _ _ (c .if1 .taken))))
+    (sym (ap (λ (b : Bool). cond b 1 (cond (eqb (st .pattern * 2 ^ st .place) (st .candidate * 2 ^ c .before .args .place)) (st .changes) 2)) (eq-eqb _ _ (c .if1 .taken))))
 
 returns-2 : tie.Need-returns-2
 returns-2 c =
