@@ -5,14 +5,14 @@ ghost use Prim.Native.Nat.{_<_};
 ghost use Rattle.text.specs.Digits.{isDecimalDigit, isHexDigit, digitValue, digitOf, allDecimal, allHex};
 
 // 0 to 9.
-pub fn is_decimal_digit(b: u8) -> bool
+pub(crate) fn is_decimal_digit(b: u8) -> bool
     ensures { λ r. ⌜ r ≡ isDecimalDigit b ⌝ }
 {
     48 <= b && b <= 57
 }
 
 // Capital letters alone.
-pub fn is_hex_digit(b: u8) -> bool
+pub(crate) fn is_hex_digit(b: u8) -> bool
     ensures { λ r. ⌜ r ≡ isHexDigit b ⌝ }
 {
     if is_decimal_digit(b) {
@@ -23,7 +23,7 @@ pub fn is_hex_digit(b: u8) -> bool
 }
 
 // The value of a digit, and 0 for a byte that is none.
-pub fn digit_value(b: u8) -> u8
+pub(crate) fn digit_value(b: u8) -> u8
     ensures { λ r. ⌜ r ≡ digitValue b ⌝ }
 {
     if is_decimal_digit(b) {
