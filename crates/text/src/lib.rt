@@ -1,21 +1,11 @@
-// Text as programs read and write it: lines and columns, capital hexadecimal and decimal digits, and appending to a
-// buffer.
+// Text as programs write it: appending bytes, capital hexadecimal digits and decimal digits to a buffer. The definitions
+// of specs/ say what text is for reading it too: lines, columns and the values of digits. The crate `reading` reads.
 //
 // Every public function takes any input. Its contract gives the result and the lent buffer by a definition of specs/.
-// A function that appends takes the number of bytes of the buffer that are taken already and answers the number that
-// are taken then; what a full buffer has no place for is left out.
-mod bytes;
-mod digits;
-mod lines;
-mod numbers;
+// A function takes the number of bytes of the buffer that are taken already and answers the number that are taken then;
+// what a full buffer has no place for is left out.
 mod output;
 
-pub use bytes::hex_bytes;
-pub use digits::all_decimal;
-pub use digits::all_hex;
-pub use lines::find;
-pub use numbers::decimal_number;
-pub use numbers::hex_number;
 pub use output::put_byte;
 pub use output::put_bytes;
 pub use output::put_decimal;
