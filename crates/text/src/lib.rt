@@ -1,9 +1,9 @@
-// Text as programs write it: appending bytes, capital hexadecimal digits and decimal digits to a buffer. The definitions
-// of specs/ say what text is for reading it too: lines, columns and the values of digits. The crate `reading` reads.
+// Text as programs write it: appending bytes, capital hexadecimal digits and decimal digits to a buffer. Beside that,
+// specs/ defines what the crate `reading` reads: lines, columns and the values of digits.
 //
 // Every public function takes any input. Its contract gives the result and the lent buffer by a definition of specs/.
-// A function takes the number of bytes of the buffer that are taken already and answers the number that are taken then;
-// what a full buffer has no place for is left out.
+// The function takes the number of bytes of the buffer that are taken already and answers the number that are taken
+// then; what a full buffer has no place for is left out.
 mod output;
 
 pub use output::put_byte;
