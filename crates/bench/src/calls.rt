@@ -12,10 +12,10 @@ pub(crate) fn answer(name: &[u8], arguments: &[u8]) {
         register(first, second);
     } else {
         if check::same(name, b"backward") {
-            print::answer(division::register_back(text::hex_number(first)));
+            print::answer(division::register_back(reading::hex_number(first)));
         } else {
             if check::same(name, b"overlay") {
-                print::answer(division::uplink_overlay(text::hex_number(first)));
+                print::answer(division::uplink_overlay(reading::hex_number(first)));
             } else {
                 on_message(name, first, second);
             }
@@ -24,15 +24,15 @@ pub(crate) fn answer(name: &[u8], arguments: &[u8]) {
 }
 
 fn register(word: &[u8], bit: &[u8]) {
-    print::answer(division::register_step(text::hex_number(word), check::same(bit, b"1")));
+    print::answer(division::register_step(reading::hex_number(word), check::same(bit, b"1")));
 }
 
 // The calls with a field or a message, of at most 16 bytes.
 fn on_message(name: &[u8], digits: &[u8], word: &[u8]) {
     let mut bytes = [0u8; 16];
-    let n = text::hex_bytes(digits, &mut bytes);
+    let n = reading::hex_bytes(digits, &mut bytes);
     if n <= 16 {
-        with_message(name, &mut bytes[0..n], text::hex_number(word));
+        with_message(name, &mut bytes[0..n], reading::hex_number(word));
     }
 }
 

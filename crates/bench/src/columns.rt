@@ -6,7 +6,7 @@ ghost use lib.ListN.{length};
 pub(crate) fn end_of(s: &[u8], b: u8) -> usize
     ensures { λ r. ⌜ r ≤ length (now (s .entry)) ⌝ }
 {
-    let end = text::find(s, b);
+    let end = reading::find(s, b);
     if end <= s.len() { end } else { s.len() }
 }
 

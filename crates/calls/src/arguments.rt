@@ -6,7 +6,7 @@ pub(crate) fn is_bytes(s: &[u8]) -> bool {
         return false;
     }
     if s.len() % 2 == 0 {
-        text::all_hex(s)
+        reading::all_hex(s)
     } else {
         check::same(s, b"-")
     }
@@ -17,7 +17,7 @@ pub(crate) fn is_word(s: &[u8]) -> bool {
     if s.len() == 0 || 8 < s.len() {
         return false;
     }
-    text::all_hex(s)
+    reading::all_hex(s)
 }
 
 pub(crate) fn is_bit(s: &[u8]) -> bool {

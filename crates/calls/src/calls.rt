@@ -15,7 +15,7 @@ pub(crate) fn answer(line: &[u8], out: &mut [u8], taken: usize) -> usize {
     let end = end_of(line, b' ');
     let arguments = after(line, end);
     let mut message = [0u8; 32];
-    let n = text::hex_bytes(first_of(arguments), &mut message);
+    let n = reading::hex_bytes(first_of(arguments), &mut message);
     if n <= 32 {
         answer_with(&line[0..end], arguments, &mut message[0..n], out, taken)
     } else {
@@ -66,7 +66,7 @@ fn make_of_message_or_word(name: &[u8], argument: &[u8], m: &[u8]) -> Answer {
         return if_bytes(argument, division::address_read(m));
     }
     if is_word(argument) {
-        return make_of_word(name, text::hex_number(argument));
+        return make_of_word(name, reading::hex_number(argument));
     }
     Answer::Malformed
 }
@@ -95,7 +95,7 @@ fn make_of_two(name: &[u8], first: &[u8], second: &[u8], m: &mut [u8]) -> Answer
     }
     if is_bytes(first) {
         if is_word(second) {
-            return make_of_message(name, m, text::hex_number(second));
+            return make_of_message(name, m, reading::hex_number(second));
         }
     }
     Answer::Malformed
@@ -105,7 +105,7 @@ fn step(register: &[u8], bit: &[u8]) -> Answer {
     if is_word(register) {
         if is_bit(bit) {
             let one = check::same(bit, b"1");
-            return Answer::Divided(division::register_step(text::hex_number(register), one));
+            return Answer::Divided(division::register_step(reading::hex_number(register), one));
         }
     }
     Answer::Malformed

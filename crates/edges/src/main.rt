@@ -45,7 +45,7 @@ fn print(name: &[u8], output: &[u8]) {
     io::write_all(1, b": ");
     io::print_decimal(1, output.len() as u64);
     io::write_all(1, b"\n");
-    let first = text::find(output, 10);
+    let first = reading::find(output, 10);
     if first < output.len() {
         io::write_all(1, &output[..first]);
     }

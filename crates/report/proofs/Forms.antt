@@ -12,7 +12,7 @@ use Rattle.text.specs.Lines.{columns, before, space, inFirst}
 use Rattle.text.specs.Digits.{isDecimalDigit, allHex, allDecimal, bytesOf, hexNumber, decimalNumber}
 use Rattle.text.proofs.Parts.{picked, passed-over, both-left, both-right}
 use Rattle.text.proofs.Splitting.{before-le, first-column, only-column}
-use Rattle.text.proofs.Spelling.{decimal-range, bytesOf-length}
+use Rattle.reading.proofs.Values.{decimal-range, bytesOf-length}
 use Rattle.report.specs.Sift.{isByteString, isWord, isLimit, wellFormed, malformed, requestColumns, answerColumns}
 
 -- ---- sizes

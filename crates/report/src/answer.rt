@@ -22,11 +22,11 @@ pub(crate) fn write_request(
     ensures { λ r. ⌜ length (lineEnd (requestColumns (bytesOf (now (m .entry))) (bytesOf (now (c .entry))) (hexNumber (now (w .entry))) (decimalNumber (now (l .entry))))) ≤ 70 ⌝ }
 {
     let mut message = [0u8; 14];
-    let size = text::hex_bytes(m, &mut message);
+    let size = reading::hex_bytes(m, &mut message);
     let mut confidence = [0u8; 14];
-    let count = text::hex_bytes(c, &mut confidence);
-    let word = text::hex_number(w);
-    let limit = text::decimal_number(l);
+    let count = reading::hex_bytes(c, &mut confidence);
+    let word = reading::hex_number(w);
+    let limit = reading::decimal_number(l);
     write_called(
         out,
         taken,

@@ -13,7 +13,7 @@ pub(crate) fn write_answer(out: &mut [u8], taken: usize, line: &[u8]) -> usize
     ensures { λ r. ⌜ (now (out .exit), r) ≡ append (now (out .entry), taken) (answerText (columns (now (line .entry)))) ⌝ }
     ensures { λ r. ⌜ length (answerText (columns (now (line .entry)))) ≤ 19 + 24 * length (now (line .entry)) ⌝ }
 {
-    let end = text::find(line, 32);
+    let end = reading::find(line, 32);
     if end < line.len() {
         after_message(out, taken, &line[..end], column_after(line, end))
     } else {
@@ -25,7 +25,7 @@ fn after_message(out: &mut [u8], taken: usize, m: &[u8], others: &[u8]) -> usize
     ensures { λ r. ⌜ (now (out .exit), r) ≡ append (now (out .entry), taken) (answerText (now (m .entry) ∷ columns (now (others .entry)))) ⌝ }
     ensures { λ r. ⌜ length (answerText (now (m .entry) ∷ columns (now (others .entry)))) ≤ 19 + 24 * length (now (others .entry)) ⌝ }
 {
-    let end = text::find(others, 32);
+    let end = reading::find(others, 32);
     if end < others.len() {
         after_confidence(out, taken, m, &others[..end], column_after(others, end))
     } else {
@@ -37,7 +37,7 @@ fn after_confidence(out: &mut [u8], taken: usize, m: &[u8], c: &[u8], others: &[
     ensures { λ r. ⌜ (now (out .exit), r) ≡ append (now (out .entry), taken) (answerText (now (m .entry) ∷ now (c .entry) ∷ columns (now (others .entry)))) ⌝ }
     ensures { λ r. ⌜ length (answerText (now (m .entry) ∷ now (c .entry) ∷ columns (now (others .entry)))) ≤ 19 + 24 * length (now (others .entry)) ⌝ }
 {
-    let end = text::find(others, 32);
+    let end = reading::find(others, 32);
     if end < others.len() {
         after_word(out, taken, m, c, &others[..end], column_after(others, end))
     } else {

@@ -38,7 +38,7 @@ fn has_line(input: &[u8], at: usize) -> bool
 fn line_size(rest: &[u8]) -> usize
     ensures { λ r. ⌜ r ≡ length (before lineFeed (now (rest .entry))) ⌝ }
 {
-    text::find(rest, 10)
+    reading::find(rest, 10)
 }
 
 // A line's number, and its answer.

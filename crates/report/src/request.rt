@@ -17,7 +17,7 @@ fn is_byte_string(s: &[u8]) -> bool
 {
     let size = s.len();
     let range = both(2 <= size, size <= 28);
-    let digits = both(size % 2 == 0, text::all_hex(s));
+    let digits = both(size % 2 == 0, reading::all_hex(s));
     both(range, digits)
 }
 
@@ -25,7 +25,7 @@ fn is_byte_string(s: &[u8]) -> bool
 fn is_word(s: &[u8]) -> bool
     ensures { λ r. ⌜ r ≡ isWord (now (s .entry)) ⌝ }
 {
-    both(s.len() == 6, text::all_hex(s))
+    both(s.len() == 6, reading::all_hex(s))
 }
 
 // 1 or 2 decimal digits.
@@ -34,7 +34,7 @@ fn is_limit(s: &[u8]) -> bool
 {
     let size = s.len();
     let range = both(1 <= size, size <= 2);
-    both(range, text::all_decimal(s))
+    both(range, reading::all_decimal(s))
 }
 
 fn both(a: bool, b: bool) -> bool

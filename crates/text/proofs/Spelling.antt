@@ -1,66 +1,18 @@
--- Digits, and the numbers and bytes that they write.
-use mathlib.Core.Path.{_≡_, refl, sym, ap, _∙_, subst}
+-- Digits: of a value below 16, of bytes, and of a number.
+use mathlib.Core.Path.{_≡_, refl, sym, ap, _∙_}
 use mathlib.Core.Bool.{Bool, true, false}
 use mathlib.Core.List.{List, [], _∷_, _++_}
-use Prim.Native.Nat.{ℕ, zero, suc, _+_, _-_, _*_, _/_, _%_, _^_, _<_, _≤_}
-use native.Mathlib.Nat.{pow-suc, mod-mod, mod-eq-of-lt, div-add-mod, add-mul, mul-assoc, add-assoc, mul-add-mod-self-left, mul-le-mul-left, mul-one, one-mul, pow-le-pow-right}
+use Prim.Native.Nat.{ℕ, zero, suc, _+_, _*_, _/_, _%_, _^_, _<_, _≤_}
+use native.Mathlib.Nat.{pow-suc}
 use native.Mathlib.Omega.{arith}
 use lib.ListN.{length, getD, drop, length-append}
-use lib.Dec.{leb, ltb}
-use borrow.Author.Tests.{leb-true, ltb-true, ltb-false, lt-ltb, le-ltb, le-leb, lt-leb}
-use Rattle.text.specs.Choice.{pick, both, either}
-use Rattle.text.specs.Digits.{hexNumber, decimalNumber, isDecimalDigit, isHexDigit, digitValue, digitOf, allDecimal, allHex, numberAfter, bytesOf, hexText, decimalWithin, decimalText}
-use Rattle.text.proofs.Parts.{picked, passed-over, both-true, both-false, both-left, both-right, next-byte, no-more}
+use lib.Dec.{ltb}
+use borrow.Author.Tests.{ltb-true, ltb-false, lt-ltb, le-ltb}
+use Rattle.text.specs.Choice.{pick}
+use Rattle.text.specs.Digits.{digitOf, hexText, decimalWithin, decimalText}
+use Rattle.text.proofs.Parts.{picked, passed-over, next-byte, no-more}
 
 -- ---- one digit
-
-pub decimal-range : (b : ℕ) → isDecimalDigit b ≡ true → (48 ≤ b) × (b ≤ 57)
-unfolding isDecimalDigit
-decimal-range b e = (leb-true 48 b (both-left (leb 48 b) (leb b 57) e), leb-true b 57 (both-right (leb 48 b) (leb b 57) e))
-
--- a digit that is not decimal is a letter
-pub letter-range : (b : ℕ) → isDecimalDigit b ≡ false → isHexDigit b ≡ true → (65 ≤ b) × (b ≤ 70)
-unfolding isHexDigit
-letter-range b n e =
-    let f : both (leb 65 b) (leb b 70) ≡ true = ap (λ (t : Bool). either t (both (leb 65 b) (leb b 70))) (sym n) ∙ e in
-    (leb-true 65 b (both-left (leb 65 b) (leb b 70) f), leb-true b 70 (both-right (leb 65 b) (leb b 70) f))
-
--- the tests of the code, one after the other
-pub decimal-test : (b : ℕ) → 48 ≤ b → leb b 57 ≡ isDecimalDigit b
-unfolding isDecimalDigit
-decimal-test b h = sym (both-true (leb 48 b) (leb b 57) (le-leb 48 b h))
-
-pub decimal-below : (b : ℕ) → b < 48 → leb 48 b ≡ isDecimalDigit b
-unfolding isDecimalDigit
-decimal-below b h = lt-leb 48 b h ∙ sym (both-false (leb 48 b) (leb b 57) (lt-leb 48 b h))
-
-pub hex-decimal : (b : ℕ) → isDecimalDigit b ≡ true → true ≡ isHexDigit b
-unfolding isHexDigit
-hex-decimal b e = ap (λ (t : Bool). either t (both (leb 65 b) (leb b 70))) (sym e)
-
-hex-other : (b : ℕ) → isDecimalDigit b ≡ false → both (leb 65 b) (leb b 70) ≡ isHexDigit b
-unfolding isHexDigit
-hex-other b e = ap (λ (t : Bool). either t (both (leb 65 b) (leb b 70))) (sym e)
-
-pub hex-test : (b : ℕ) → isDecimalDigit b ≡ false → 65 ≤ b → leb b 70 ≡ isHexDigit b
-hex-test b e h = sym (both-true (leb 65 b) (leb b 70) (le-leb 65 b h)) ∙ hex-other b e
-
-pub hex-below : (b : ℕ) → isDecimalDigit b ≡ false → b < 65 → leb 65 b ≡ isHexDigit b
-hex-below b e h = lt-leb 65 b h ∙ sym (both-false (leb 65 b) (leb b 70) (lt-leb 65 b h)) ∙ hex-other b e
-
-pub value-decimal : (b : ℕ) → isDecimalDigit b ≡ true → b - 48 ≡ digitValue b
-unfolding digitValue
-value-decimal b e = sym (picked (isDecimalDigit b) (b - 48) (pick (isHexDigit b) (b - 55) 0) e)
-
-pub value-letter : (b : ℕ) → isDecimalDigit b ≡ false → isHexDigit b ≡ true → b - 55 ≡ digitValue b
-unfolding digitValue
-value-letter b n e =
-    sym (passed-over (isDecimalDigit b) (b - 48) (pick (isHexDigit b) (b - 55) 0) n ∙ picked (isHexDigit b) (b - 55) 0 e)
-
-pub value-none : (b : ℕ) → isDecimalDigit b ≡ false → isHexDigit b ≡ false → 0 ≡ digitValue b
-unfolding digitValue
-value-none b n e =
-    sym (passed-over (isDecimalDigit b) (b - 48) (pick (isHexDigit b) (b - 55) 0) n ∙ passed-over (isHexDigit b) (b - 55) 0 e)
 
 pub digit-low : (v : ℕ) → v < 10 → 48 + v ≡ digitOf v
 unfolding digitOf
@@ -69,113 +21,6 @@ digit-low v h = sym (picked (ltb v 10) (48 + v) (55 + v) (lt-ltb v 10 h))
 pub digit-high : (v : ℕ) → 10 ≤ v → 55 + v ≡ digitOf v
 unfolding digitOf
 digit-high v h = sym (passed-over (ltb v 10) (48 + v) (55 + v) (le-ltb v 10 h))
-
-pub digit-value-lt : (b : ℕ) → digitValue b < 16
-unfolding digitValue
-digit-value-lt b = decimal (isDecimalDigit b) refl
-  where
-    letter : (t : Bool) → isDecimalDigit b ≡ false → isHexDigit b ≡ t → pick t (b - 55) 0 < 16
-    letter true n e = omega (arith, letter-range b n e)
-    letter false n e = omega arith
-
-    decimal : (t : Bool) → isDecimalDigit b ≡ t → pick t (b - 48) (pick (isHexDigit b) (b - 55) 0) < 16
-    decimal true e = omega (arith, decimal-range b e)
-    decimal false e = letter (isHexDigit b) e refl
-
--- ---- texts of digits, from a place on
-
-pub decimal-here : (s : List ℕ) (i : ℕ) → i < length s → isDecimalDigit (getD s i 0) ≡ true → allDecimal (drop i s) ≡ allDecimal (drop (i + 1) s)
-unfolding allDecimal
-decimal-here s i h e = ap allDecimal (next-byte s i h) ∙ both-true (isDecimalDigit (getD s i 0)) (allDecimal (drop (i + 1) s)) e
-
-pub not-decimal-here : (s : List ℕ) (i : ℕ) → i < length s → isDecimalDigit (getD s i 0) ≡ false → allDecimal (drop i s) ≡ false
-unfolding allDecimal
-not-decimal-here s i h e = ap allDecimal (next-byte s i h) ∙ both-false (isDecimalDigit (getD s i 0)) (allDecimal (drop (i + 1) s)) e
-
-pub hex-here : (s : List ℕ) (i : ℕ) → i < length s → isHexDigit (getD s i 0) ≡ true → allHex (drop i s) ≡ allHex (drop (i + 1) s)
-unfolding allHex
-hex-here s i h e = ap allHex (next-byte s i h) ∙ both-true (isHexDigit (getD s i 0)) (allHex (drop (i + 1) s)) e
-
-pub not-hex-here : (s : List ℕ) (i : ℕ) → i < length s → isHexDigit (getD s i 0) ≡ false → allHex (drop i s) ≡ false
-unfolding allHex
-not-hex-here s i h e = ap allHex (next-byte s i h) ∙ both-false (isHexDigit (getD s i 0)) (allHex (drop (i + 1) s)) e
-
--- ---- numbers, from a place on
-
-mod-step : (M v b d : ℕ) → (v * b + d) % M ≡ (v % M * b + d) % M
-mod-step M v b d =
-    ap (λ (x : ℕ). (x * b + d) % M) (sym (div-add-mod v M))
-    ∙ ap (λ (x : ℕ). (x + d) % M) (add-mul (M * (v / M)) (v % M) b ∙ ap (λ (x : ℕ). x + v % M * b) (mul-assoc M (v / M) b))
-    ∙ ap (λ (x : ℕ). x % M) (add-assoc (M * (v / M * b)) (v % M * b) d)
-    ∙ mul-add-mod-self-left M (v / M * b) (v % M * b + d)
-
--- the low bits of a number decide the low bits of the number with more digits
-low-bits : (M base v w : ℕ) (s : List ℕ) → v % M ≡ w % M → numberAfter base v s % M ≡ numberAfter base w s % M
-unfolding numberAfter
-low-bits M base v w [] e = e
-low-bits M base v w (d ∷ s) e =
-    low-bits M base (v * base + digitValue d) (w * base + digitValue d) s
-    (mod-step M v base (digitValue d) ∙ ap (λ (x : ℕ). (x * base + digitValue d) % M) e ∙ sym (mod-step M w base (digitValue d)))
-
-pub next-digit : (base v w : ℕ) (s : List ℕ) (i : ℕ) → i < length s → w ≡ (v * base + digitValue (getD s i 0)) % 2 ^ 32
-    → numberAfter base w (drop (i + 1) s) % 2 ^ 32 ≡ numberAfter base v (drop i s) % 2 ^ 32
-unfolding numberAfter
-next-digit base v w s i h e =
-    low-bits (2 ^ 32) base w (v * base + digitValue (getD s i 0)) (drop (i + 1) s)
-    (ap (λ (x : ℕ). x % 2 ^ 32) e ∙ mod-mod (v * base + digitValue (getD s i 0)) (2 ^ 32))
-    ∙ ap (λ (l : List ℕ). numberAfter base v l % 2 ^ 32) (sym (next-byte s i h))
-
-pub all-digits-read : (base v : ℕ) (s : List ℕ) (i : ℕ) → length s ≤ i → v < 2 ^ 32 → v ≡ numberAfter base v (drop i s) % 2 ^ 32
-unfolding numberAfter
-all-digits-read base v s i h k = sym (ap (λ (l : List ℕ). numberAfter base v l % 2 ^ 32) (no-more s i h) ∙ mod-eq-of-lt k)
-
--- a number of k digits in a base up to 16 is below 16^k
-number-bound : (base v b : ℕ) (s : List ℕ) → base ≤ 16 → v < b → numberAfter base v s < b * 16 ^ length s
-unfolding numberAfter
-number-bound base v b [] h k = omega (arith, mul-one b)
-number-bound base v b (d ∷ s) h k =
-    let more : v * base + digitValue d < b * 16 = omega (arith, mul-le-mul-left v h, digit-value-lt d) in
-    let e : b * 16 * 16 ^ length s ≡ b * 16 ^ suc (length s) = mul-assoc b 16 (16 ^ length s) ∙ ap (λ (x : ℕ). b * x) (omega (arith, pow-suc 16 (length s))) in
-    subst (λ (x : ℕ). numberAfter base (v * base + digitValue d) s < x) e (number-bound base (v * base + digitValue d) (b * 16) s h more)
-
-number-fits : (base : ℕ) (s : List ℕ) → base ≤ 16 → length s ≤ 8 → numberAfter base 0 s < 2 ^ 32
-number-fits base s h k =
-    let small : 16 ^ length s ≤ 16 ^ 8 = pow-le-pow-right (omega arith) k in
-    omega (arith, number-bound base 0 1 s h (omega arith), one-mul (16 ^ length s))
-
--- so a number of up to 8 digits is read whole
-pub hexNumber-whole : (s : List ℕ) → length s ≤ 8 → hexNumber s % 2 ^ 32 ≡ hexNumber s
-unfolding hexNumber
-hexNumber-whole s h = mod-eq-of-lt (number-fits 16 s (omega arith) h)
-
-pub decimalNumber-whole : (s : List ℕ) → length s ≤ 8 → decimalNumber s % 2 ^ 32 ≡ decimalNumber s
-unfolding decimalNumber
-decimalNumber-whole s h = mod-eq-of-lt (number-fits 10 s (omega arith) h)
-
--- ---- pairs of digits, from a place on
-
-pub next-pair : (s : List ℕ) (i : ℕ) → i + 1 < length s
-    → bytesOf (drop i s) ≡ (digitValue (getD s i 0) * 16 + digitValue (getD s (i + 1) 0)) ∷ bytesOf (drop (i + 2) s)
-unfolding bytesOf
-next-pair s i h =
-    let e : (i + 1) + 1 ≡ i + 2 = omega arith in
-    ap bytesOf (next-byte s i (omega arith) ∙ ap (λ (l : List ℕ). getD s i 0 ∷ l) (next-byte s (i + 1) h ∙ ap (λ (n : ℕ). getD s (i + 1) 0 ∷ drop n s) e))
-
-pub no-pair : (s : List ℕ) (i : ℕ) → i ≤ length s → length s ≤ i + 1 → bytesOf (drop i s) ≡ []
-unfolding bytesOf
-no-pair s i h k = short (drop i s) (omega (arith, lib.ListN.length-drop i s))
-  where
-    short : (l : List ℕ) → length l ≤ 1 → bytesOf l ≡ []
-    short [] k = refl
-    short (a ∷ []) k = refl
-    short (a ∷ b ∷ l) k = absurd (omega arith)
-
--- half as many bytes as digits
-pub bytesOf-length : (s : List ℕ) → length (bytesOf s) ≡ length s / 2
-unfolding bytesOf
-bytesOf-length [] = refl
-bytesOf-length (a ∷ []) = refl
-bytesOf-length (a ∷ b ∷ s) = omega (arith, bytesOf-length s)
 
 -- ---- the digits of bytes and of a word
 

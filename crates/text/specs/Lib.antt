@@ -1,4 +1,4 @@
--- What a reader must believe of the text library, in this order.
+-- What a reader must believe of text, written (this crate) and read (the crate reading), in this order.
 pub mod Choice
 pub mod Quoted
 pub mod Lines

@@ -1,10 +1,9 @@
 // Appending to a buffer: bytes, and numbers as digits.
 ghost use mathlib.Core.Path.{_≡_};
 ghost use mathlib.Core.List.{[], _∷_};
-ghost use Prim.Native.Nat.{_/_, _%_};
+ghost use Prim.Native.Nat.{_/_, _%_, _<_};
 ghost use Rattle.text.specs.Digits.{digitOf, hexText, wordText, decimalText};
 ghost use Rattle.text.specs.Output.{append};
-use crate::digits::digit_of;
 
 // A full buffer stays as it is.
 pub fn put_byte(out: &mut [u8], taken: usize, b: u8) -> usize
@@ -70,4 +69,12 @@ pub fn put_decimal(out: &mut [u8], taken: usize, n: u32) -> usize
         let next = put_decimal(out, taken, n / 10);
         put_byte(out, next, digit_of((n % 10) as u8))
     }
+}
+
+// The digit of a value below 16.
+fn digit_of(v: u8) -> u8
+    requires { ⌜ v < 16 ⌝ }
+    ensures { λ r. ⌜ r ≡ digitOf v ⌝ }
+{
+    if v < 10 { 48 + v } else { 55 + v }
 }

@@ -8,7 +8,7 @@ use lib.Seq.{length-take-le}
 use Rattle.text.specs.Digits.{bytesOf, hexNumber, decimalNumber}
 use Rattle.text.specs.Output.{append}
 use Rattle.text.proofs.Appending.{taken-part, taken-le}
-use Rattle.text.proofs.Spelling.{hexNumber-whole, decimalNumber-whole}
+use Rattle.reading.proofs.Values.{hexNumber-whole, decimalNumber-whole}
 use Rattle.report.proofs.Forms.{message-formed, confidence-formed, word-formed, limit-formed, byte-string-fits, word-size, limit-size}
 use Rattle.report.proofs.Texts.{same-request}
 use Rattle.report.proofs.answer.write_request.Statement.{statement}

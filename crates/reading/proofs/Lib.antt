@@ -1,0 +1,3 @@
+-- The laws of reading text.
+pub mod Searching
+pub mod Values

@@ -1,0 +1,70 @@
+// Digits: tests, and the values of digits.
+ghost use mathlib.Core.Path.{_≡_};
+ghost use mathlib.Core.Bool.{false};
+ghost use Rattle.text.specs.Digits.{isDecimalDigit, isHexDigit, digitValue, allDecimal, allHex};
+
+// 0 to 9.
+pub(crate) fn is_decimal_digit(b: u8) -> bool
+    ensures { λ r. ⌜ r ≡ isDecimalDigit b ⌝ }
+{
+    48 <= b && b <= 57
+}
+
+// Capital letters alone.
+pub(crate) fn is_hex_digit(b: u8) -> bool
+    ensures { λ r. ⌜ r ≡ isHexDigit b ⌝ }
+{
+    if is_decimal_digit(b) {
+        true
+    } else {
+        65 <= b && b <= 70
+    }
+}
+
+// The value of a digit, and 0 for a byte that is none.
+pub(crate) fn digit_value(b: u8) -> u8
+    ensures { λ r. ⌜ r ≡ digitValue b ⌝ }
+{
+    if is_decimal_digit(b) {
+        b - 48
+    } else {
+        letter_value(b)
+    }
+}
+
+fn letter_value(b: u8) -> u8
+    requires { ⌜ isDecimalDigit b ≡ false ⌝ }
+    ensures { λ r. ⌜ r ≡ digitValue b ⌝ }
+{
+    if is_hex_digit(b) { b - 55 } else { 0 }
+}
+
+// Whether every byte is a decimal digit, which is true of none.
+pub fn all_decimal(s: &[u8]) -> bool
+    ensures { λ r. ⌜ r ≡ allDecimal (now (s .entry)) ⌝ }
+{
+    let mut i: usize = 0;
+    while i < s.len() {
+        if is_decimal_digit(s[i]) {
+            i += 1;
+        } else {
+            return false;
+        }
+    }
+    true
+}
+
+// Whether every byte is a hexadecimal digit, which is true of none.
+pub fn all_hex(s: &[u8]) -> bool
+    ensures { λ r. ⌜ r ≡ allHex (now (s .entry)) ⌝ }
+{
+    let mut i: usize = 0;
+    while i < s.len() {
+        if is_hex_digit(s[i]) {
+            i += 1;
+        } else {
+            return false;
+        }
+    }
+    true
+}
