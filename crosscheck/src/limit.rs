@@ -30,8 +30,7 @@ const MODELS: [Model; 5] = [
 
 /// The rows of a model under all limits, from 0 to 24. With perfect marks and
 /// one burst nothing may be wrong and sole, without a fit, or clean.
-fn rows(n: usize, model: &Model, seed: u64) -> Vec<Row> {
-    let counts = Counts::simulate(n, model, REPLIES, &mut Random::new(seed));
+fn rows(model: &Model, counts: &Counts) -> Vec<Row> {
     let rows: Vec<Row> = (0..=24).map(|limit| counts.under(limit)).collect();
     if model.miss == 0.0 && model.second_burst == 0.0 {
         for row in &rows {
@@ -66,7 +65,7 @@ notice.
     )
 }
 
-fn table(n: usize, model: &Model, rows: &[Row]) -> String {
+fn table(n: usize, model: &Model, counts: &Counts, rows: &[Row]) -> String {
     let mut text = format!(
         "\n### {n} bits: {}\n\n\
          missed {}, near {}, elsewhere {}; second burst in {:.0} % of the replies\n\n\
@@ -91,6 +90,11 @@ fn table(n: usize, model: &Model, rows: &[Row]) -> String {
             row.clean
         );
     }
+    let _ = writeln!(
+        text,
+        "\nOf the {} wrong repairs marked several, {} differ from the change by (x + 1)·G at some place.",
+        rows[24].several_wrong, counts.several_by_lone_bit
+    );
     text
 }
 
@@ -108,8 +112,10 @@ pub fn limit(folder: &Path) -> Result<(), String> {
     for n in [56, 112] {
         let mut results = Vec::new();
         for (index, model) in MODELS.iter().enumerate() {
-            let rows = rows(n, model, SEED + 100 * n as u64 + index as u64);
-            tables += &table(n, model, &rows);
+            let mut random = Random::new(SEED + 100 * n as u64 + index as u64);
+            let counts = Counts::simulate(n, model, REPLIES, &mut random);
+            let rows = rows(model, &counts);
+            tables += &table(n, model, &counts, &rows);
             results.push((model, rows));
         }
         write(folder, &format!("limit-{n}.svg"), &picture(n, REPLIES, &results))?;

@@ -7,7 +7,7 @@
 //! system for its 24 bits is solved once for every syndrome bit, and the
 //! solutions are added up (`Solver`).
 
-use crate::poly::{remainder_of_power, DEGREE};
+use crate::poly::{remainder_of_power, DEGREE, GENERATOR_POWERS};
 use crate::random::Random;
 use crate::solve::eliminate;
 
@@ -134,20 +134,31 @@ impl Solver {
         changes
     }
 
-    pub fn outcome(&self, hit: &Hit) -> Outcome {
+    /// What the sensor says, and the bits in which the repair differs from the
+    /// change: none where it is undone, or nothing is repaired.
+    pub fn outcome(&self, hit: &Hit) -> (Outcome, u128) {
         let syndrome = remainder_of(hit.changed);
         if syndrome == 0 {
-            return Outcome::Clean;
+            return (Outcome::Clean, 0);
         }
         let changes = self.changes(syndrome, hit.low);
-        match (changes.as_slice(), changes.first() == Some(&hit.changed)) {
+        let wrong = changes.first().map_or(0, |applied| applied ^ hit.changed);
+        let outcome = match (changes.as_slice(), wrong) {
             ([], _) => Outcome::NoFit,
-            ([_], true) => Outcome::SoleAsSent,
-            ([_], false) => Outcome::SoleWrong,
-            (_, true) => Outcome::SeveralAsSent,
-            (_, false) => Outcome::SeveralWrong,
-        }
+            ([_], 0) => Outcome::SoleAsSent,
+            ([_], _) => Outcome::SoleWrong,
+            (_, 0) => Outcome::SeveralAsSent,
+            (_, _) => Outcome::SeveralWrong,
+        };
+        (outcome, wrong)
     }
+}
+
+/// Whether some bits are (x + 1)·G at some place. That multiple of G has only
+/// eight ones, and the first stands alone, 13 places before the next.
+fn is_lone_bit_multiple(bits: u128) -> bool {
+    let multiple = GENERATOR_POWERS.iter().fold(0, |sum, power| sum ^ 0b11 << power);
+    bits != 0 && bits >> bits.trailing_zeros() == multiple
 }
 
 /// The solutions of one window for every value of each syndrome byte.
@@ -189,6 +200,9 @@ pub fn densest(n: usize, low: u128) -> usize {
 /// How often each outcome came, by the highest density of the reply.
 pub struct Counts {
     by_density: [[u64; 25]; 6],
+    /// The wrong repairs marked several that differ from the change by
+    /// (x + 1)·G at some place.
+    pub several_by_lone_bit: u64,
 }
 
 /// The counts under one limit.
@@ -207,11 +221,14 @@ impl Counts {
     /// Hits and judges `replies` replies of n bits.
     pub fn simulate(n: usize, model: &Model, replies: u64, random: &mut Random) -> Counts {
         let solver = Solver::new(n);
-        let mut counts = Counts { by_density: [[0; 25]; 6] };
+        let mut counts = Counts { by_density: [[0; 25]; 6], several_by_lone_bit: 0 };
         for _ in 0..replies {
             let hit = hit(random, n, model);
-            let outcome = solver.outcome(&hit);
+            let (outcome, wrong) = solver.outcome(&hit);
             counts.by_density[outcome as usize][densest(n, hit.low)] += 1;
+            if outcome == Outcome::SeveralWrong && is_lone_bit_multiple(wrong) {
+                counts.several_by_lone_bit += 1;
+            }
         }
         counts
     }
@@ -270,7 +287,7 @@ mod tests {
                 let low = bytes_of_bits(&bits(hit.low, n));
                 let verdict = sense(&received, &low, word, 24);
                 let as_sent = verdict.message == bytes_of_bits(&sent);
-                assert_eq!(solver.outcome(&hit), outcome_of(verdict.answer, as_sent));
+                assert_eq!(solver.outcome(&hit).0, outcome_of(verdict.answer, as_sent));
                 let dense = densest(n, hit.low);
                 if dense > 0 && verdict.answer != Answer::Clean {
                     let answer = sense(&received, &low, word, dense as u32 - 1).answer;
