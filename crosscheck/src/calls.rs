@@ -156,17 +156,11 @@ pub fn print(number: usize, judged: &Judged) -> String {
 }
 
 /// The whole output for a whole input; `met` is shown each line's outcome.
-pub fn output_and_show(input: &[u8], mut met: impl FnMut(usize, &Judged)) -> Vec<u8> {
+pub fn output_and_show(input: &[u8], met: impl FnMut(usize, &Judged)) -> Vec<u8> {
     if input.len() > MOST_BYTES {
         return TOO_LONG.as_bytes().to_vec();
     }
-    let mut output = String::new();
-    for (index, line) in lines(input).into_iter().enumerate() {
-        let judged = judge(line);
-        met(index, &judged);
-        output += &print(index + 1, &judged);
-    }
-    output.into_bytes()
+    numbered(input, judge, print, met).into_bytes()
 }
 
 pub fn output(input: &[u8]) -> Vec<u8> {

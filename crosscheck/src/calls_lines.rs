@@ -314,18 +314,9 @@ pub fn defects() -> Vec<Defect> {
     [&OF_THE_LINE[..], &OF_A_NUMBER[..], &OF_CALLS[..]].concat()
 }
 
-fn malformed(random: &mut Random) -> Vec<Made> {
-    let mut made = Vec::new();
-    for (name, spoil) in defects() {
-        let columns = well_formed(random);
-        made.extend(spoil(&columns, random).map(|text| Made::malformed(text, name)));
-    }
-    made
-}
-
 /// Lines of all recipes, every window once, in a random order.
 pub fn round(random: &mut Random) -> Vec<Made> {
-    let mut lines = malformed(random);
+    let mut lines = spoiled(random, defects(), well_formed);
     lines.extend(all_lengths(random));
     for length in [7, 14] {
         lines.extend(windows(8 * length).map(|window| hit(random, length, window)));

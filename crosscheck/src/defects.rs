@@ -1,6 +1,7 @@
 //! Ways to spoil a well-formed line. Each makes one thing wrong and leaves the
 //! rest, so that a program that overlooks that one thing is found out.
 
+use crate::blocks::Made;
 use crate::random::Random;
 
 /// What a column of a line holds.
@@ -24,6 +25,20 @@ pub type Column = (Sort, Vec<u8>);
 /// A name, and the maker of the spoiled line; none where the columns at hand
 /// cannot be spoiled so.
 pub type Defect = (&'static str, fn(&[Column], &mut Random) -> Option<Vec<u8>>);
+
+/// A line of each defect that the columns of a well-formed line can have.
+pub fn spoiled<C: AsRef<[Column]>>(
+    random: &mut Random,
+    defects: Vec<Defect>,
+    well_formed: fn(&mut Random) -> C,
+) -> Vec<Made> {
+    let mut made = Vec::new();
+    for (name, spoil) in defects {
+        let columns = well_formed(random);
+        made.extend(spoil(columns.as_ref(), random).map(|text| Made::malformed(text, name)));
+    }
+    made
+}
 
 /// The columns parted by one space.
 pub fn join(columns: &[Column]) -> Vec<u8> {

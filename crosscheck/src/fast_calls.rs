@@ -4,40 +4,10 @@
 //!
 //! It shares no code with the reference and is compared with it.
 
-const MOST: usize = 65_536;
-const GENERATOR: u32 = 0x1FF_F409;
-const WORD: u32 = 0xFF_FFFF;
-const DIGITS: &[u8; 16] = b"0123456789ABCDEF";
-
-/// For each byte value b the remainder of b·x^24.
-static REMAINDERS: [u32; 256] = remainders();
+use crate::fast::{put_lines, read_pairs, step, DIGITS, GENERATOR, MOST, REMAINDERS, WORD};
 
 /// For each bit of a long field the remainder it adds.
 static ROWS: [u32; 88] = rows();
-
-/// For each byte its value as a hexadecimal digit, or 255.
-static VALUES: [u8; 256] = values();
-
-const fn step(register: u32, bit: u32) -> u32 {
-    let top = register >> 23 ^ bit;
-    (register << 1 & WORD) ^ (GENERATOR & WORD & top.wrapping_neg())
-}
-
-const fn remainders() -> [u32; 256] {
-    let mut table = [0; 256];
-    let mut byte = 0;
-    while byte < 256 {
-        let mut register = 0;
-        let mut at = 8;
-        while at > 0 {
-            at -= 1;
-            register = step(register, byte as u32 >> at & 1);
-        }
-        table[byte] = register;
-        byte += 1;
-    }
-    table
-}
 
 const fn rows() -> [u32; 88] {
     let mut table = [0; 88];
@@ -47,16 +17,6 @@ const fn rows() -> [u32; 88] {
         at -= 1;
         table[at] = row;
         row = step(row, 0);
-    }
-    table
-}
-
-const fn values() -> [u8; 256] {
-    let mut table = [255; 256];
-    let mut value = 0;
-    while value < 16 {
-        table[DIGITS[value] as usize] = value as u8;
-        value += 1;
     }
     table
 }
@@ -96,15 +56,7 @@ fn by_rows(field: &[u8]) -> u32 {
 #[inline]
 fn string(text: &[u8]) -> Option<([u8; 32], usize, &[u8])> {
     let mut bytes = [0; 32];
-    let mut count = 0;
-    for (byte, pair) in bytes.iter_mut().zip(text.chunks_exact(2)) {
-        let (high, low) = (VALUES[usize::from(pair[0])], VALUES[usize::from(pair[1])]);
-        if high | low > 15 {
-            break;
-        }
-        *byte = high << 4 | low;
-        count += 1;
-    }
+    let count = read_pairs(text, &mut bytes);
     let rest = match (count, text) {
         (0, [b'-', rest @ ..]) => rest,
         (0, _) => return None,
@@ -131,21 +83,6 @@ fn read(text: &[u8]) -> Option<Read<'_>> {
     })
 }
 
-fn put_number(out: &mut Vec<u8>, number: u32) {
-    let mut digits = [0; 10];
-    let mut at = digits.len();
-    let mut rest = number;
-    loop {
-        at -= 1;
-        digits[at] = b'0' + (rest % 10) as u8;
-        rest /= 10;
-        if rest == 0 {
-            break;
-        }
-    }
-    out.extend_from_slice(&digits[at..]);
-}
-
 fn put_value(out: &mut Vec<u8>, value: u32) {
     let mut text = *b" value 000000 -";
     for place in 0..6 {
@@ -160,23 +97,13 @@ pub fn output(input: &[u8]) -> Vec<u8> {
         return b"too long\n".to_vec();
     }
     let mut out = Vec::with_capacity(64 + 2 * input.len());
-    let mut rest = input;
-    let mut number = 0;
-    while !rest.is_empty() {
-        number += 1;
-        put_number(&mut out, number);
-        if let Some((way, (bytes, count, after))) = read(rest) {
-            match count {
-                4 | 11 => put_value(&mut out, way(&bytes[..count])),
-                _ => out.extend_from_slice(b" refused 1 -"),
-            }
-            rest = after;
-        } else {
-            out.extend_from_slice(b" malformed - -");
-            let end = rest.iter().position(|byte| *byte == b'\n').unwrap_or(rest.len() - 1);
-            rest = &rest[end + 1..];
+    put_lines(&mut out, input, b" malformed - -", |out, text| {
+        let (way, (bytes, count, after)) = read(text)?;
+        match count {
+            4 | 11 => put_value(out, way(&bytes[..count])),
+            _ => out.extend_from_slice(b" refused 1 -"),
         }
-        out.push(b'\n');
-    }
+        Some(after)
+    });
     out
 }

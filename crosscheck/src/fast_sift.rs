@@ -4,58 +4,18 @@
 //!
 //! It shares no code with the reference and is compared with it.
 
-use std::io::{Read, Write};
+use crate::fast::{put_lines, put_number, read_pairs, DIGITS, GENERATOR, MOST, REMAINDERS, WORD};
 
-const MOST: usize = 65_536;
-const GENERATOR: u32 = 0x1FF_F409;
-const WORD: u32 = 0xFF_FFFF;
 const HEADER: &[u8] = b"line answer window bits mark message\n";
-
-/// For each byte value b the remainder of b·x^24.
-static REMAINDERS: [u32; 256] = remainders();
-
-/// For each byte its value as a hexadecimal digit, or 255.
-static VALUES: [u8; 256] = values();
 
 /// For each byte value its two digits.
 static PAIRS: [[u8; 2]; 256] = pairs();
 
-const fn remainders() -> [u32; 256] {
-    let mut table = [0; 256];
-    let mut byte = 0;
-    while byte < 256 {
-        let mut rest = (byte as u32) << 16;
-        let mut step = 0;
-        while step < 8 {
-            rest <<= 1;
-            if rest > WORD {
-                rest ^= GENERATOR;
-            }
-            step += 1;
-        }
-        table[byte] = rest;
-        byte += 1;
-    }
-    table
-}
-
-const fn values() -> [u8; 256] {
-    let digits = *b"0123456789ABCDEF";
-    let mut table = [255; 256];
-    let mut value = 0;
-    while value < 16 {
-        table[digits[value] as usize] = value as u8;
-        value += 1;
-    }
-    table
-}
-
 const fn pairs() -> [[u8; 2]; 256] {
-    let digits = *b"0123456789ABCDEF";
     let mut table = [[0; 2]; 256];
     let mut byte = 0;
     while byte < 256 {
-        table[byte] = [digits[byte / 16], digits[byte % 16]];
+        table[byte] = [DIGITS[byte / 16], DIGITS[byte % 16]];
         byte += 1;
     }
     table
@@ -78,15 +38,7 @@ struct Request<'a> {
 #[inline]
 fn bytes(text: &[u8]) -> Option<([u8; 16], usize, &[u8])> {
     let mut bytes = [0; 16];
-    let mut count = 0;
-    for (byte, pair) in bytes[..14].iter_mut().zip(text.chunks_exact(2)) {
-        let (high, low) = (VALUES[usize::from(pair[0])], VALUES[usize::from(pair[1])]);
-        if high | low > 15 {
-            break;
-        }
-        *byte = high << 4 | low;
-        count += 1;
-    }
+    let count = read_pairs(text, &mut bytes[..14]);
     match text.get(2 * count) {
         Some(b' ') if count > 0 => Some((bytes, count, &text[2 * count + 1..])),
         _ => None,
@@ -186,23 +138,6 @@ fn fits(low: u128, windows: u32, syndrome: u32) -> Option<(u32, u32, bool)> {
     found.map(|(place, candidate)| (place, candidate, changes > 1))
 }
 
-/// Writes a number in decimal digits.
-#[inline]
-fn put_number(out: &mut Vec<u8>, number: u32) {
-    let mut digits = [0; 10];
-    let mut at = digits.len();
-    let mut rest = number;
-    loop {
-        at -= 1;
-        digits[at] = b'0' + (rest % 10) as u8;
-        rest /= 10;
-        if rest == 0 {
-            break;
-        }
-    }
-    out.extend_from_slice(&digits[at..]);
-}
-
 fn put_message(out: &mut Vec<u8>, message: u128, bytes: usize) {
     for byte in &message.to_be_bytes()[16 - bytes..] {
         out.extend_from_slice(&PAIRS[usize::from(*byte)]);
@@ -269,28 +204,10 @@ pub fn output(input: &[u8]) -> Vec<u8> {
         out.extend_from_slice(b"too long\n");
         return out;
     }
-    let mut rest = input;
-    let mut number = 0;
-    while !rest.is_empty() {
-        number += 1;
-        put_number(&mut out, number);
-        if let Some((request, after)) = read(rest) {
-            put_answer(&mut out, &request);
-            rest = after;
-        } else {
-            out.extend_from_slice(b" malformed - - - -");
-            let end = rest.iter().position(|byte| *byte == b'\n').unwrap_or(rest.len() - 1);
-            rest = &rest[end + 1..];
-        }
-        out.push(b'\n');
-    }
+    put_lines(&mut out, input, b" malformed - - - -", |out, text| {
+        let (request, after) = read(text)?;
+        put_answer(out, &request);
+        Some(after)
+    });
     out
-}
-
-/// Reads standard input, one byte beyond the most at the most, and answers by
-/// `output` on standard output.
-pub fn serve(output: fn(&[u8]) -> Vec<u8>) -> std::io::Result<()> {
-    let mut input = Vec::with_capacity(MOST + 32);
-    std::io::stdin().lock().take(MOST as u64 + 1).read_to_end(&mut input)?;
-    std::io::stdout().lock().write_all(&output(&input))
 }

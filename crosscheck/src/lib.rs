@@ -27,7 +27,7 @@
 //!
 //! Beside it:
 //! - `simulate`, `svg`, `picture`, `limit`: what the density limit costs;
-//! - `fast_sift`, `fast_calls`, `speed`: programs written for speed, and the
+//! - `fast`, `fast_sift`, `fast_calls`, `speed`: programs written for speed, and the
 //!   measurement against them;
 //! - `selftest`: the checks of this program on itself.
 
@@ -37,6 +37,7 @@ pub mod calls_kinds;
 pub mod calls_lines;
 pub mod compare;
 pub mod defects;
+pub mod fast;
 pub mod fast_calls;
 pub mod fast_sift;
 pub mod limit;

@@ -58,17 +58,13 @@ pub fn print(number: usize, judged: &Judged) -> String {
 }
 
 /// The whole output for a whole input; `met` is shown each line's outcome.
-pub fn output_and_show(input: &[u8], mut met: impl FnMut(usize, &Judged)) -> Vec<u8> {
-    let mut output = HEADER.to_string();
-    if input.len() > MOST_BYTES {
-        return (output + TOO_LONG).into_bytes();
-    }
-    for (index, line) in lines(input).into_iter().enumerate() {
-        let judged = judge(line);
-        met(index, &judged);
-        output += &print(index + 1, &judged);
-    }
-    output.into_bytes()
+pub fn output_and_show(input: &[u8], met: impl FnMut(usize, &Judged)) -> Vec<u8> {
+    let after = if input.len() > MOST_BYTES {
+        TOO_LONG.to_string()
+    } else {
+        numbered(input, judge, print, met)
+    };
+    (HEADER.to_string() + &after).into_bytes()
 }
 
 pub fn output(input: &[u8]) -> Vec<u8> {

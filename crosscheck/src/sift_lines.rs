@@ -305,18 +305,9 @@ pub fn defects() -> Vec<Defect> {
     [&OF_THE_LINE[..], &OF_A_NUMBER[..], &OF_SIFT[..]].concat()
 }
 
-fn malformed(random: &mut Random) -> Vec<Made> {
-    let mut made = Vec::new();
-    for (name, spoil) in defects() {
-        let columns = well_formed(random);
-        made.extend(spoil(&columns, random).map(|text| Made::malformed(text, name)));
-    }
-    made
-}
-
 /// Lines of all recipes, every window once or more, in a random order.
 pub fn round(random: &mut Random) -> Vec<Made> {
-    let mut made = malformed(random);
+    let mut made = spoiled(random, defects(), well_formed);
     for n in LENGTHS {
         let last = n - DEGREE;
         for window in windows(n) {

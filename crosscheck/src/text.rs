@@ -19,6 +19,23 @@ pub fn lines(input: &[u8]) -> Vec<&[u8]> {
     pieces
 }
 
+/// The output lines, numbered from 1: each line is judged, shown to `met` and
+/// printed.
+pub fn numbered<J>(
+    input: &[u8],
+    judge: fn(&[u8]) -> J,
+    print: fn(usize, &J) -> String,
+    mut met: impl FnMut(usize, &J),
+) -> String {
+    let mut output = String::new();
+    for (index, line) in lines(input).into_iter().enumerate() {
+        let judged = judge(line);
+        met(index, &judged);
+        output += &print(index + 1, &judged);
+    }
+    output
+}
+
 /// The value of a capital hexadecimal digit.
 pub fn digit_value(digit: u8) -> Option<u32> {
     DIGITS.iter().position(|known| *known == digit).map(|value| value as u32)

@@ -2,5 +2,5 @@
 //! `crosscheck::fast_calls`.
 
 fn main() -> std::io::Result<()> {
-    crosscheck::fast_sift::serve(crosscheck::fast_calls::output)
+    crosscheck::fast::serve(crosscheck::fast_calls::output)
 }

@@ -1,5 +1,5 @@
 //! The program `sift` written for speed: see `crosscheck::fast_sift`.
 
 fn main() -> std::io::Result<()> {
-    crosscheck::fast_sift::serve(crosscheck::fast_sift::output)
+    crosscheck::fast::serve(crosscheck::fast_sift::output)
 }
