@@ -14,8 +14,6 @@ use lines::write_lines;
 mod answer;
 mod columns;
 mod lines;
-mod request;
-mod verdict;
 
 // The output stands at the start of the buffer, whose other bytes stay; the answer is its length. The third promise
 // follows from the first two: with it a caller lends `&out[..r]` without a proof.
