@@ -1,4 +1,6 @@
 -- The whole output of sift as a definition of its whole input (document 01, 'The program sift').
+-- request/specs/Requests.antt says what a well-formed line is, verdicts/specs/Columns.antt which columns an answer of the
+-- sensor has.
 use Prim.Native.Nat.{ℕ, _+_}
 use mathlib.Core.List.{List, [], _∷_, _++_}
 use lib.ListN.{length}

@@ -32,7 +32,7 @@ pub fn write_verdict(out: &mut [u8], taken: usize, v: Verdict) -> usize
     }
 }
 
-// A word and a number alone.
+// A word and a number; the bits changed and the mark are lacking.
 fn write_numbered(out: &mut [u8], taken: usize, word: &[u8], n: u32) -> usize
     ensures { λ r. ⌜ (now (out .exit), r) ≡ append (now (out .entry), taken) (now (word .entry) ++ decimalText n ++ ascii " - -") ⌝ }
     ensures { λ r. ⌜ length (decimalText n) ≤ 10 ⌝ }
@@ -42,6 +42,7 @@ fn write_numbered(out: &mut [u8], taken: usize, word: &[u8], n: u32) -> usize
     text::put_bytes(out, number, b" - -")
 }
 
+// Word, window, bits changed and mark.
 fn write_correction(out: &mut [u8], taken: usize, k: Correction) -> usize
     ensures { λ r. ⌜ (now (out .exit), r) ≡ append (now (out .entry), taken) (ascii " corrected " ++ decimalText (k .window) ++ (space ∷ []) ++ decimalText (k .bits) ++ (space ∷ markWord (markOf (k .mark)))) ⌝ }
     ensures { λ r. ⌜ length (decimalText (k .window)) ≤ 10 ⌝ }
@@ -55,6 +56,7 @@ fn write_correction(out: &mut [u8], taken: usize, k: Correction) -> usize
     write_mark(out, bits, mark)
 }
 
+// The mark, after one space.
 fn write_mark(out: &mut [u8], taken: usize, mark: Mark) -> usize
     ensures { λ r. ⌜ (now (out .exit), r) ≡ append (now (out .entry), taken) (space ∷ markWord (markOf mark)) ⌝ }
 {
