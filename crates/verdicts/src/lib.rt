@@ -37,8 +37,7 @@ fn write_numbered(out: &mut [u8], taken: usize, word: &[u8], n: u32) -> usize
     ensures { λ r. ⌜ (now (out .exit), r) ≡ append (now (out .entry), taken) (now (word .entry) ++ decimalText n ++ ascii " - -") ⌝ }
     ensures { λ r. ⌜ length (decimalText n) ≤ 10 ⌝ }
 {
-    let named = text::put_bytes(out, taken, word);
-    let number = write_number(out, named, n);
+    let number = write_named(out, taken, word, n);
     text::put_bytes(out, number, b" - -")
 }
 
@@ -49,10 +48,8 @@ fn write_correction(out: &mut [u8], taken: usize, k: Correction) -> usize
     ensures { λ r. ⌜ length (decimalText (k .bits)) ≤ 10 ⌝ }
 {
     let mark = k.mark;
-    let word = text::put_bytes(out, taken, b" corrected ");
-    let window = write_number(out, word, k.window);
-    let gap = text::put_byte(out, window, 32);
-    let bits = write_number(out, gap, k.bits);
+    let window = write_named(out, taken, b" corrected ", k.window);
+    let bits = write_named(out, window, b" ", k.bits);
     write_mark(out, bits, mark)
 }
 
@@ -66,10 +63,11 @@ fn write_mark(out: &mut [u8], taken: usize, mark: Mark) -> usize
     }
 }
 
-// A number of 32 bits has at most ten digits.
-fn write_number(out: &mut [u8], taken: usize, n: u32) -> usize
-    ensures { λ r. ⌜ (now (out .exit), r) ≡ append (now (out .entry), taken) (decimalText n) ⌝ }
+// A word and then a number, which in 32 bits has at most ten digits.
+fn write_named(out: &mut [u8], taken: usize, word: &[u8], n: u32) -> usize
+    ensures { λ r. ⌜ (now (out .exit), r) ≡ append (now (out .entry), taken) (now (word .entry) ++ decimalText n) ⌝ }
     ensures { λ r. ⌜ length (decimalText n) ≤ 10 ⌝ }
 {
-    text::put_decimal(out, taken, n)
+    let named = text::put_bytes(out, taken, word);
+    text::put_decimal(out, named, n)
 }
