@@ -13,7 +13,8 @@ use Rattle.text.specs.Digits.{isDecimalDigit, allHex, allDecimal, bytesOf, hexN
 use Rattle.text.proofs.Parts.{picked, passed-over, both-left, both-right}
 use Rattle.text.proofs.Splitting.{before-le, first-column, only-column}
 use Rattle.reading.proofs.Values.{decimal-range, bytesOf-length}
-use Rattle.report.specs.Sift.{isByteString, isWord, isLimit, wellFormed, malformed, requestColumns, answerColumns}
+use Rattle.request.specs.Requests.{isByteString, isWord, isLimit, wellFormed}
+use Rattle.report.specs.Sift.{malformed, requestColumns, answerColumns}
 
 -- ---- sizes
 

@@ -5,10 +5,9 @@ use Prim.Native.Nat.{ℕ, _+_, _-_, _*_, _<_, _≤_}
 use native.Mathlib.Omega.{arith}
 use lib.ListN.{length, take, drop, length-append, length-drop}
 use lib.Seq.{length-take-le, drop-drop}
-use lib.Dec.{eqb, leb}
+use lib.Dec.{leb}
 use borrow.Author.Tests.{le-leb, lt-leb}
-use mathlib.Core.Bool.{Bool, true, false}
-use Rattle.text.specs.Choice.{pick}
+use mathlib.Core.Bool.{true, false}
 use Rattle.text.specs.Quoted.{ascii}
 use Rattle.text.specs.Lines.{lineFeed, space, before, columns, lines}
 use Rattle.text.specs.Output.{Place, append}
@@ -16,71 +15,10 @@ use Rattle.text.specs.Digits.{decimalText, bytesOf, hexNumber, decimalNumber}
 use Rattle.text.proofs.Spelling.{decimal-length}
 use Rattle.text.proofs.Parts.{part-from, no-more, picked, passed-over}
 use Rattle.text.proofs.Splitting.{before-le, split-column, whole-column, split-line}
-use Rattle.division.specs.Answers.Outcome.{refusal, answer}
-use Rattle.report.specs.Sift.{answerWord, markWord, outcomeColumns, wellFormed, requestColumns, spaced, malformed, answerColumns, answerText, outputLine, outputLines, header, siftOutput}
+use Rattle.request.specs.Requests.{wellFormed}
+use Rattle.verdicts.specs.Columns.{spaced}
+use Rattle.report.specs.Sift.{requestColumns, malformed, answerColumns, answerText, outputLine, outputLines, header, siftOutput}
 use Rattle.report.proofs.Forms.{well-formed-columns, ill-formed-columns}
-
--- ---- verdicts
-
-pub clean-text : ascii " clean - - -" ≡ spaced (outcomeColumns (answer 1 []))
-unfolding spaced outcomeColumns answerWord
-clean-text = refl
-
-pub nofit-text : ascii " nofit - - -" ≡ spaced (outcomeColumns (answer 3 []))
-unfolding spaced outcomeColumns answerWord
-nofit-text = refl
-
-pub dense-text : (w : ℕ) → ascii " dense " ++ decimalText w ++ ascii " - -" ≡ spaced (outcomeColumns (answer 2 (w ∷ [])))
-unfolding spaced outcomeColumns answerWord
-dense-text w = refl
-
-pub refused-text : (n : ℕ) → ascii " refused " ++ decimalText n ++ ascii " - -" ≡ spaced (outcomeColumns (refusal n))
-unfolding spaced outcomeColumns
-refused-text n = refl
-
-pub corrected-text : (w b m : ℕ)
-    → ascii " corrected " ++ decimalText w ++ (space ∷ []) ++ decimalText b ++ (space ∷ markWord m)
-    ≡ spaced (outcomeColumns (answer 4 (w ∷ b ∷ m ∷ [])))
-unfolding spaced outcomeColumns answerWord
-corrected-text w b m =
-    append-assoc (ascii " corrected " ++ decimalText w ++ (space ∷ [])) (decimalText b) (space ∷ markWord m)
-    ∙ append-assoc (ascii " corrected " ++ decimalText w) (space ∷ []) (decimalText b ++ (space ∷ markWord m))
-    ∙ append-assoc (ascii " corrected ") (decimalText w) (space ∷ (decimalText b ++ (space ∷ markWord m)))
-    ∙ ap (λ (t : List ℕ). ascii " corrected " ++ (decimalText w ++ (space ∷ (decimalText b ++ (space ∷ t))))) (sym (append-nil (markWord m)))
-
-pub sole-text : ascii " sole" ≡ space ∷ markWord 1
-unfolding markWord
-sole-text = refl
-
-pub several-text : ascii " several" ≡ space ∷ markWord 2
-unfolding markWord
-several-text = refl
-
--- ---- lengths of verdicts, where a number has at most ten digits
-
-markWord-length : (m : ℕ) → length (markWord m) ≤ 7
-unfolding markWord
-markWord-length m = cases (eqb m 1)
-  where
-    cases : (t : Bool) → length (pick t (ascii "sole") (ascii "several")) ≤ 7
-    cases true = omega arith
-    cases false = omega arith
-
-pub number-length : (word : List ℕ) (n : ℕ) → length word ≤ 9 → length (decimalText n) ≤ 10 → length (word ++ decimalText n ++ ascii " - -") ≤ 40
-number-length word n h k =
-    omega (arith, length-append word (decimalText n), length-append (word ++ decimalText n) (ascii " - -"))
-
-pub corrected-length : (w b m : ℕ) → length (decimalText w) ≤ 10 → length (decimalText b) ≤ 10
-    → length (ascii " corrected " ++ decimalText w ++ (space ∷ []) ++ decimalText b ++ (space ∷ markWord m)) ≤ 40
-corrected-length w b m h k =
-    omega (
-      arith,
-      length-append (ascii " corrected ") (decimalText w),
-      length-append (ascii " corrected " ++ decimalText w) (space ∷ []),
-      length-append (ascii " corrected " ++ decimalText w ++ (space ∷ [])) (decimalText b),
-      length-append (ascii " corrected " ++ decimalText w ++ (space ∷ []) ++ decimalText b) (space ∷ markWord m),
-      markWord-length m,
-    )
 
 -- ---- the message after a verdict, and the line feed
 

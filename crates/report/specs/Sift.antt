@@ -1,59 +1,19 @@
 -- The whole output of sift as a definition of its whole input (document 01, 'The program sift').
-use Prim.Native.Nat.{ℕ, _+_, _%_}
+-- request/specs/Requests.antt says what a well-formed line is, verdicts/specs/Columns.antt which columns an answer of the
+-- sensor has.
+use Prim.Native.Nat.{ℕ, _+_}
 use mathlib.Core.List.{List, [], _∷_, _++_}
-use mathlib.Core.Bool.{Bool}
-use lib.ListN.{length, drop}
-use lib.Dec.{eqb, leb}
-use Rattle.text.specs.Choice.{pick, both}
+use lib.ListN.{length}
+use lib.Dec.{leb}
+use Rattle.text.specs.Choice.{pick}
 use Rattle.text.specs.Quoted.{ascii}
-use Rattle.text.specs.Lines.{lines, columns, lineFeed, space}
-use Rattle.text.specs.Digits.{allHex, allDecimal, bytesOf, hexNumber, decimalNumber, hexText, decimalText}
-use Rattle.division.specs.Answers.{Outcome}
-use Rattle.division.specs.Answers.Outcome.{refusal, answer}
+use Rattle.text.specs.Lines.{lines, columns, lineFeed}
+use Rattle.text.specs.Digits.{bytesOf, hexNumber, decimalNumber, hexText, decimalText}
 use Rattle.sensor.specs.Verdicts.{sensorOutcome, sensorAfter}
+use Rattle.request.specs.Requests.{wellFormed}
+use Rattle.verdicts.specs.Columns.{outcomeColumns, lacking, spaced}
 
--- ---- a well-formed line
-
--- 'message, confidence (2 to 28 capital hexadecimal digits each, an even number)'
-unfoldable pub isByteString : List ℕ → Bool
-isByteString s = both (both (leb 2 (length s)) (leb (length s) 28)) (both (eqb (length s % 2) 0) (allHex s))
-
--- 'word (6 such digits)'
-unfoldable pub isWord : List ℕ → Bool
-isWord s = both (eqb (length s) 6) (allHex s)
-
--- 'limit (1 or 2 decimal digits)'
-unfoldable pub isLimit : List ℕ → Bool
-isLimit s = both (both (leb 1 (length s)) (leb (length s) 2)) (allDecimal s)
-
-unfoldable pub wellFormed : List ℕ → List ℕ → List ℕ → List ℕ → Bool
-wellFormed m c w l = both (both (isByteString m) (isByteString c)) (both (isWord w) (isLimit l))
-
--- ---- the columns of an answer: 'answer; window, or the refusal number; bits changed; mark'
-
--- rows 1 to 4 of 'Sensor'
-unfoldable pub answerWord : ℕ → List ℕ
-answerWord row =
-    pick (eqb row 1) (ascii "clean") (pick (eqb row 2) (ascii "dense") (pick (eqb row 3) (ascii "nofit") (ascii "corrected")))
-
--- the number of a mark: sole is 1, several 2
-unfoldable pub markWord : ℕ → List ℕ
-markWord mark = pick (eqb mark 1) (ascii "sole") (ascii "several")
-
--- '`-` fills what an answer lacks'
-abbrev pub lacking : List ℕ
-lacking = ascii "-"
-
--- the first of some values as a column
-abbrev pub column : (ℕ → List ℕ) → List ℕ → List ℕ
-column text [] = lacking
-column text (v ∷ vs) = text v
-
--- an answer's values are the window, the bits changed and the mark, as far as it has them
-unfoldable pub outcomeColumns : Outcome → List (List ℕ)
-outcomeColumns (refusal n) = ascii "refused" ∷ decimalText n ∷ lacking ∷ lacking ∷ []
-outcomeColumns (answer row values) =
-    answerWord row ∷ column decimalText values ∷ column decimalText (drop 1 values) ∷ column markWord (drop 2 values) ∷ []
+-- ---- the columns of an answer
 
 -- what the sensor answers, and the 'message after the call'
 unfoldable pub requestColumns : List ℕ → List ℕ → ℕ → ℕ → List (List ℕ)
@@ -75,12 +35,7 @@ answerColumns (m ∷ c ∷ w ∷ l ∷ x ∷ xs) = malformed
 
 -- ---- the output
 
--- columns after the first, each after one space
-unfoldable pub spaced : List (List ℕ) → List ℕ
-spaced [] = []
-spaced (c ∷ cs) = space ∷ c ++ spaced cs
-
--- columns after the first, and the line feed
+-- columns after the first, each after one space, and the line feed
 abbrev pub lineEnd : List (List ℕ) → List ℕ
 lineEnd cs = spaced cs ++ lineFeed ∷ []
 

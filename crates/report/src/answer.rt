@@ -5,8 +5,8 @@ ghost use mathlib.Core.Bool.{true};
 ghost use lib.ListN.{length};
 ghost use Rattle.text.specs.Digits.{bytesOf, hexNumber, decimalNumber};
 ghost use Rattle.text.specs.Output.{append};
-ghost use Rattle.report.specs.Sift.{wellFormed, lineEnd, requestColumns};
-use crate::verdict::write_verdict;
+ghost use Rattle.request.specs.Requests.{wellFormed};
+ghost use Rattle.report.specs.Sift.{lineEnd, requestColumns};
 
 // Message, confidence, word and limit as texts.
 pub(crate) fn write_request(
@@ -51,7 +51,7 @@ fn write_called(
     ensures { λ r. ⌜ length (lineEnd (requestColumns (now (message .entry)) (now (confidence .entry)) word limit)) ≤ 70 ⌝ }
 {
     let verdict = sensor::correct(message, confidence, word, limit);
-    let answered = write_verdict(out, taken, verdict);
+    let answered = verdicts::write_verdict(out, taken, verdict);
     let gap = text::put_byte(out, answered, 32);
     let shown = text::put_hex(out, gap, message);
     text::put_byte(out, shown, 10)

@@ -7,7 +7,6 @@ ghost use Rattle.text.specs.Lines.{columns};
 ghost use Rattle.text.specs.Output.{append};
 ghost use Rattle.report.specs.Sift.{answerText};
 use crate::answer::write_request;
-use crate::request::is_well_formed;
 
 pub(crate) fn write_answer(out: &mut [u8], taken: usize, line: &[u8]) -> usize
     ensures { λ r. ⌜ (now (out .exit), r) ≡ append (now (out .entry), taken) (answerText (columns (now (line .entry)))) ⌝ }
@@ -49,7 +48,7 @@ fn after_word(out: &mut [u8], taken: usize, m: &[u8], c: &[u8], w: &[u8], l: &[u
     ensures { λ r. ⌜ (now (out .exit), r) ≡ append (now (out .entry), taken) (answerText (now (m .entry) ∷ now (c .entry) ∷ now (w .entry) ∷ columns (now (l .entry)))) ⌝ }
     ensures { λ r. ⌜ length (answerText (now (m .entry) ∷ now (c .entry) ∷ now (w .entry) ∷ columns (now (l .entry)))) ≤ 19 + 24 * length (now (w .entry)) ⌝ }
 {
-    if is_well_formed(m, c, w, l) {
+    if request::is_well_formed(m, c, w, l) {
         write_request(out, taken, m, c, w, l)
     } else {
         write_malformed(out, taken)

@@ -1,4 +1,6 @@
-// The program sift as a function: from the whole input to the whole output (document 01, 'The program sift').
+// The program sift as a function: from the whole input to the whole output (document 01, 'The program sift'). It takes
+// the input apart into lines and columns and calls the sensor; `request` says which lines are well-formed, and
+// `verdicts` writes what the sensor answers.
 //
 // Each function appends to the output buffer: it takes the number of bytes taken already, answers the number taken
 // then, and its contract names the text it appends by a definition of specs/Sift.antt. The second promise of each
@@ -14,8 +16,6 @@ use lines::write_lines;
 mod answer;
 mod columns;
 mod lines;
-mod request;
-mod verdict;
 
 // The output stands at the start of the buffer, whose other bytes stay; the answer is its length. The third promise
 // follows from the first two: with it a caller lends `&out[..r]` without a proof.

@@ -11,7 +11,8 @@ use Rattle.text.proofs.Appending.{after}
 use Rattle.text.proofs.Spelling.{hexText-length}
 use Rattle.sensor.specs.Verdicts.{said, sensorOutcome, sensorAfter}
 use Rattle.division.specs.Answers.{Outcome}
-use Rattle.report.specs.Sift.{spaced, outcomeColumns, requestColumns}
+use Rattle.verdicts.specs.Columns.{spaced, outcomeColumns}
+use Rattle.report.specs.Sift.{requestColumns}
 use Rattle.report.proofs.Texts.{message-text, message-length}
 use Rattle.report.proofs.answer.write_called.Statement.{statement}
 use Rattle.report.proofs.answer.write_called.Tie as tie

@@ -6,7 +6,7 @@ use Prim.Native.Nat.{ℕ}
 use native.Mathlib.Omega.{arith}
 use lib.ListN.{length}
 use Rattle.text.specs.Output.{append}
-use Rattle.report.specs.Sift.{wellFormed}
+use Rattle.request.specs.Requests.{wellFormed}
 use Rattle.report.proofs.Forms.{word-formed, word-size}
 use Rattle.report.proofs.Texts.{well-formed-text, ill-formed-text, malformed-length}
 use Rattle.report.proofs.columns.after_word.Statement.{statement}

@@ -1,0 +1,47 @@
+// What a well-formed line is: its four columns, each tested by its length and its digits (document 01, 'The program sift').
+//
+// `is_well_formed` takes any bytes; its contract gives the result by a definition of specs/Requests.antt.
+ghost use mathlib.Core.Path.{_≡_};
+ghost use Rattle.text.specs.Choice.{both as both·both};
+ghost use Rattle.request.specs.Requests.{wellFormed, isByteString, isWord, isLimit};
+
+// Message, confidence, word and limit, in this order.
+pub fn is_well_formed(m: &[u8], c: &[u8], w: &[u8], l: &[u8]) -> bool
+    ensures { λ r. ⌜ r ≡ wellFormed (now (m .entry)) (now (c .entry)) (now (w .entry)) (now (l .entry)) ⌝ }
+{
+    let strings = both(is_byte_string(m), is_byte_string(c));
+    let numbers = both(is_word(w), is_limit(l));
+    both(strings, numbers)
+}
+
+// 2 to 28 capital hexadecimal digits, an even number.
+fn is_byte_string(s: &[u8]) -> bool
+    ensures { λ r. ⌜ r ≡ isByteString (now (s .entry)) ⌝ }
+{
+    let size = s.len();
+    let range = both(2 <= size, size <= 28);
+    let digits = both(size % 2 == 0, reading::all_hex(s));
+    both(range, digits)
+}
+
+// 6 such digits.
+fn is_word(s: &[u8]) -> bool
+    ensures { λ r. ⌜ r ≡ isWord (now (s .entry)) ⌝ }
+{
+    both(s.len() == 6, reading::all_hex(s))
+}
+
+// 1 or 2 decimal digits.
+fn is_limit(s: &[u8]) -> bool
+    ensures { λ r. ⌜ r ≡ isLimit (now (s .entry)) ⌝ }
+{
+    let size = s.len();
+    let range = both(1 <= size, size <= 2);
+    both(range, reading::all_decimal(s))
+}
+
+fn both(a: bool, b: bool) -> bool
+    ensures { λ r. ⌜ r ≡ both·both a b ⌝ }
+{
+    if a { b } else { false }
+}

@@ -1,0 +1,2 @@
+-- The laws of the columns of a verdict.
+pub mod Texts
