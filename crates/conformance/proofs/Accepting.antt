@@ -10,9 +10,10 @@ use lib.Bits.{bitXor, xor-self}
 use lib.ListN.{length}
 use lib.Pow.{pow-mono, shl-lt}
 use Rattle.division.specs.Division.{remainder, parity, overlay, addressRead, ReadsAs}
-use Rattle.division.specs.Message.{number, Bytes, field, formatNumber}
+use Rattle.message.specs.Message.{number, Bytes, field, formatNumber}
 use Rattle.division.specs.Answers.Outcome.{refusal, answer}
-use Rattle.division.proofs.Laws.{xor-cancel, remainder-xor, burst-noticed, address-law, addressRead-lt, remainder-by-address, message-length-ge, overlay-lt}
+use Rattle.division.proofs.Laws.{xor-cancel, remainder-xor, burst-noticed, address-law, addressRead-lt, remainder-by-address, overlay-lt}
+use Rattle.message.proofs.Laws.{message-length-ge}
 use Rattle.encoder.specs.Seals.{interrogationAfter, withParity}
 use Rattle.encoder.proofs.Laws.{was-accepted, interrogation-after, interrogation-is, sealed-length, sealed-bytes, reply-lt}
 use Rattle.transponder.specs.Receptions.{receptionOutcome}

@@ -2,8 +2,8 @@
 use mathlib.Core.Path.{refl}
 use Rattle.division.specs.Polynomial.{polynomial, downwards, product}
 use Rattle.division.specs.Division.{generator, generatorPowers, reduce, divide, quotient, remainder, parity, overlay, addressRead}
-use Rattle.division.specs.Message.{number, field, parityField, formatNumber, firstBit, firstBitAgrees, isMessageLength, isFieldLength}
-use Rattle.division.specs.Answers.{isWord, parityAnswer}
+use Rattle.message.specs.Message.{number, field, parityField, formatNumber, firstBit, firstBitAgrees, isMessageLength, isFieldLength, isWord}
+use Rattle.division.specs.Answers.{parityAnswer}
 use Rattle.encoder.specs.Seals.{wordBytes, withParity, replyParity, interrogationParity, replySeal, interrogationSeal, sealOutcome, replyAfter, interrogationAfter}
 use Rattle.transponder.specs.Receptions.{reading, isReserved, receptionOutcome}
 use Rattle.conformance.specs.Bench.{benchTable, BenchHolds}

@@ -11,10 +11,11 @@ use lib.ListN.{length}
 use lib.Pow.{pow-mono, shl-lt}
 use Rattle.division.specs.Division.{remainder, parity}
 use mathlib.Core.Bool.{true}
-use Rattle.division.specs.Message.{number, Bytes, field, isMessageLength, firstBitAgrees}
+use Rattle.message.specs.Message.{number, Bytes, field, isMessageLength, firstBitAgrees}
 use Rattle.division.specs.Answers.{Outcome}
 use Rattle.division.specs.Answers.Outcome.{refusal, answer}
-use Rattle.division.proofs.Laws.{xor-cancel-r, message-length-ge}
+use Rattle.division.proofs.Laws.{xor-cancel-r}
+use Rattle.message.proofs.Laws.{message-length-ge}
 use Rattle.encoder.specs.Seals.{withParity, sealOutcome, replyAfter}
 use Rattle.encoder.proofs.Laws.{was-accepted, reply-after, reply-is, reply-lt, sealed-length, sealed-bytes}
 use Rattle.sensor.specs.Changes.{lastWindow, place, Carries, InWindow, OnLow, Fit}

@@ -13,8 +13,8 @@ use lib.Pow.{pow-pos, shl-shr}
 use native.Mathlib.Nat.{zero-div, mod-lt}
 use Rattle.division.specs.Polynomial.{polynomial, downwards, product}
 use Rattle.division.specs.Division.{generator, generatorPowers, reduce, divide, quotient, remainder, parity, overlay, addressRead}
-use Rattle.division.specs.Message.{number, Bytes, field, formatNumber, firstBit, firstBitAgrees, isMessageLength}
-use Rattle.division.specs.Answers.{Outcome, isWord}
+use Rattle.message.specs.Message.{number, Bytes, field, formatNumber, firstBit, firstBitAgrees, isMessageLength, isWord}
+use Rattle.division.specs.Answers.{Outcome}
 use Rattle.division.specs.Answers.Outcome.{refusal, answer}
 use Rattle.encoder.specs.Seals.{wordBytes, withParity, replyParity, interrogationParity, replySeal, interrogationSeal, sealOutcome, replyAfter, interrogationAfter}
 use Rattle.transponder.specs.Receptions.{reading, isReserved, receptionOutcome}

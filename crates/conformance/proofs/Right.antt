@@ -7,7 +7,7 @@ use Prim.Native.Nat.{ℕ, zero, suc, _-_, _*_, _^_, _<_, _≤_}
 use native.Mathlib.Omega.{arith}
 use lib.Count.{ones}
 use lib.ListN.{length}
-use Rattle.division.specs.Message.{number}
+use Rattle.message.specs.Message.{number}
 use Rattle.division.specs.Answers.{Outcome}
 use Rattle.division.specs.Answers.Outcome.{answer}
 use Rattle.sensor.specs.Changes.{lastWindow, place, Carries, InWindow, Fit}

@@ -8,8 +8,9 @@ use lib.Bits.{bitXor, xor-shr, xor-mod}
 use lib.ListN.{length}
 use Rattle.division.specs.Polynomial.{product}
 use Rattle.division.specs.Division.{generator, remainder, parity, overlay, addressRead}
-use Rattle.division.specs.Message.{number, field, parityField}
-use Rattle.division.proofs.Laws.{xor-cancel, message-length-ge, message-remainder, remainder-parts, addressRead-remainder, address-law, overlay-lt, read-overlay, remainder-by-address, parity-is, overlay-coefficient, lt-word}
+use Rattle.message.specs.Message.{number, field, parityField}
+use Rattle.division.proofs.Laws.{xor-cancel, message-remainder, remainder-parts, addressRead-remainder, address-law, overlay-lt, read-overlay, remainder-by-address, parity-is, overlay-coefficient}
+use Rattle.message.proofs.Laws.{message-length-ge, lt-word}
 use Rattle.encoder.specs.Seals.{withParity, interrogationSeal}
 use Rattle.encoder.proofs.Laws.{sealed-field, sealed-parity-number, sealed-number, own-parity, reply-is, interrogation-is, reply-lt, interrogation-after, accepted, was-accepted}
 use Rattle.sensor.specs.Changes.{Carries}

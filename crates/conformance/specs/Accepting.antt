@@ -4,7 +4,7 @@ use mathlib.Core.Path.{_≡_}
 use mathlib.Core.Logic.{_↔_}
 use mathlib.Core.List.{List, [], _∷_}
 use Rattle.division.specs.Division.{ReadsAs}
-use Rattle.division.specs.Message.{number, Bytes, formatNumber}
+use Rattle.message.specs.Message.{number, Bytes, formatNumber}
 use Rattle.division.specs.Answers.Outcome.{refusal, answer}
 use Rattle.encoder.specs.Seals.{sealOutcome, interrogationAfter}
 use Rattle.transponder.specs.Receptions.{receptionOutcome}

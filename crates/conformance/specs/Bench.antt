@@ -5,7 +5,7 @@ use mathlib.Core.Path.{_≡_}
 use mathlib.Core.List.{List, [], _∷_, map}
 use Rattle.division.specs.Answers.{Outcome, parityAnswer}
 use Rattle.division.specs.Answers.Outcome.{answer}
-use Rattle.division.specs.Message.{number, parityField}
+use Rattle.message.specs.Message.{number, parityField}
 use Rattle.encoder.specs.Seals.{replyAfter, interrogationAfter}
 use Rattle.transponder.specs.Receptions.{receptionOutcome}
 

@@ -5,7 +5,7 @@ use mathlib.Core.Path.{_≡_}
 use mathlib.Core.Logic.{_↔_, _⊎_}
 use mathlib.Core.List.{List, [], _∷_}
 use lib.Count.{ones}
-use Rattle.division.specs.Message.{number, Bytes}
+use Rattle.message.specs.Message.{number, Bytes}
 use Rattle.division.specs.Answers.{Outcome}
 use Rattle.division.specs.Answers.Outcome.{refusal, answer}
 use Rattle.encoder.specs.Seals.{sealOutcome, replyAfter}

@@ -10,7 +10,7 @@ use lib.Bits.{bitXor}
 use lib.ListN.{length}
 use Rattle.division.specs.Polynomial.{product}
 use Rattle.division.specs.Division.{generator, remainder, addressRead, ReadsAs}
-use Rattle.division.specs.Message.{number, Bytes, field, parityField, isMessageLength, firstBitAgrees}
+use Rattle.message.specs.Message.{number, Bytes, field, parityField, isMessageLength, firstBitAgrees}
 use Rattle.division.specs.Answers.Outcome.{answer}
 use Rattle.encoder.specs.Seals.{replySeal, interrogationSeal, sealOutcome, interrogationAfter}
 use Rattle.sensor.specs.Changes.{Carries}

@@ -13,11 +13,11 @@ use lib.Arith.{le-zero, lt-one}
 use lib.Pow.{shr-lt}
 use lib.Bits.{bitXor, xor-shifted}
 use Rattle.division.specs.Division.{remainder, shiftIn, parity}
-use Rattle.division.specs.Message.{number, Bytes}
+use Rattle.message.specs.Message.{number, Bytes}
 use Rattle.division.specs.Ways.{registerWay, tableStep, tableWay, ThreeWays}
 use Rattle.division.proofs.Xor.{xor-shl}
 use Rattle.division.proofs.Shifting.{shl-suc, shl-shl, shl-comm, shiftIn-byte, parity-zero, parity-lt, parity-xor, parity-extend, parity-by-rows, bit-row}
-use Rattle.division.proofs.Bytes.{number-nil, number-next, number-lt, number-append-byte, next-bit}
+use Rattle.message.proofs.Laws.{number-nil, number-next, number-lt, number-append-byte, next-bit}
 
 -- ---- a byte at a step: the register and the byte table
 

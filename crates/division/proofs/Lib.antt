@@ -3,7 +3,6 @@ pub mod Xor
 pub mod Dividing
 pub mod Shifting
 pub mod Reading
-pub mod Bytes
 pub mod Table
 pub mod Fields
 pub mod Tests

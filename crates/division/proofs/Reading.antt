@@ -18,8 +18,8 @@ use Rattle.division.specs.Division.{generator, quotient, remainder, pari
 use Rattle.division.proofs.Xor.{xor-shl, xor-move}
 use Rattle.division.proofs.Dividing.{generator-is, quotient-double, quotient-step, quotient-small, quotient-xor, remainder-lt, remainder-small, remainder-xor, division-equation, division-unique, multiple, product-zero, product-step, product-digit}
 use Rattle.division.proofs.Shifting.{shl-suc, shl-shl, generator-lt, remainder-shl}
-use Rattle.division.specs.Message.{number, Bytes, field, parityField}
-use Rattle.division.proofs.Bytes.{next-bit, number-message, parityField-lt}
+use Rattle.message.specs.Message.{number, Bytes, field, parityField}
+use Rattle.message.proofs.Laws.{next-bit, number-message, parityField-lt}
 
 -- ---- a message is x^24·field + parity field
 

@@ -14,7 +14,7 @@ use Rattle.division.specs.Polynomial.{polynomial}
 use Rattle.division.specs.Division.{generator, generatorPowers, reduce, remainder, shiftIn, backward, parity}
 use Rattle.division.specs.Ways.{rowSum}
 use Rattle.division.proofs.Xor.{xor-assoc, xor-cancel-r, xor-zero→eq, xor-shl}
-use Rattle.division.proofs.Bytes.{next-bit}
+use Rattle.message.proofs.Laws.{next-bit}
 use Rattle.division.proofs.Dividing.{generator-is, remainder-once, remainder-zero, remainder-lt, remainder-small, remainder-xor, remainder-double, multiple, product-digit, product-zero}
 
 two-pos : zero < 2

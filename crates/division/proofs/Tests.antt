@@ -1,29 +1,17 @@
 -- The tests that pick an answer: what a test that passed, or failed, makes of the definition that picks by it.
 use mathlib.Core.Path.{_≡_, refl, sym, ap, _∙_}
-use mathlib.Core.Bool.{Bool, true, false, _||_}
-use mathlib.Core.Logic.{_⊎_, inl, inr}
+use mathlib.Core.Bool.{Bool, true, false}
 use mathlib.Core.List.{List, [], _∷_}
-use Prim.Native.Nat.{ℕ, _+_, _<_, _≤_, _^_}
+use Prim.Native.Nat.{ℕ, _<_, _^_}
 use native.Mathlib.Omega.{arith}
-use lib.Dec.{eqb}
 use lib.ListN.{length}
-use borrow.Author.Tests.{leb-true, eqb-true, le-leb}
 use Rattle.division.specs.Division.{remainder, backward, parity, overlay, addressRead}
-use Rattle.division.specs.Message.{number, isMessageLength, isFieldLength}
-use Rattle.division.specs.Answers.{Outcome, unless, isWord, said, parityAnswer, remainderAnswer, addressAnswer, overlayAnswer, backwardAnswer, left}
+use Rattle.message.specs.Message.{number, isMessageLength, isFieldLength, isWord}
+use Rattle.message.proofs.Laws.{lt-word}
+use Rattle.division.specs.Answers.{Outcome, unless, said, parityAnswer, remainderAnswer, addressAnswer, overlayAnswer, backwardAnswer, left}
 use Rattle.division.specs.Answers.Outcome.{refusal, answer}
 use Rattle.division.specs.declared.Word.{Word}
 use Rattle.division.specs.declared.Word.the-variants.{Value, Refused}
-
-pub either-left : (a b : Bool) → a ≡ true → a ≡ (a || b)
-either-left a b e = e ∙ ap (λ (t : Bool). t || b) (sym e)
-
-pub either-right : (a b : Bool) → a ≡ false → b ≡ (a || b)
-either-right a b e = ap (λ (t : Bool). t || b) (sym e)
-
-either-cases : (a b : Bool) → (a || b) ≡ true → (a ≡ true) ⊎ (b ≡ true)
-either-cases true b e = inl refl
-either-cases false b e = inr e
 
 pub refused : (t : Bool) (n : ℕ) (a : Outcome) → t ≡ false → refusal n ≡ unless t n a
 refused t n a e = ap (λ (t : Bool). unless t n a) (sym e)
@@ -33,44 +21,6 @@ passed t n a b e f = f ∙ ap (λ (t : Bool). unless t n b) (sym e)
 
 pub passed-value : (t : Bool) (n v w : ℕ) → t ≡ true → v ≡ w → answer 0 (v ∷ []) ≡ unless t n (answer 0 (w ∷ []))
 passed-value t n v w e f = passed t n (answer 0 (v ∷ [])) (answer 0 (w ∷ [])) e (ap (λ (x : ℕ). answer 0 (x ∷ [])) f)
-
-pub word-lt : (w : ℕ) → isWord w ≡ true → w < 2 ^ 24
-unfolding isWord
-word-lt w e = omega (arith, leb-true w 0xFFFFFF e)
-
-pub lt-word : (w : ℕ) → w < 2 ^ 24 → isWord w ≡ true
-unfolding isWord
-lt-word w h = le-leb w 0xFFFFFF (omega arith)
-
-pub message-length : (n : ℕ) → isMessageLength n ≡ true → (n ≡ 7) ⊎ (n ≡ 14)
-unfolding isMessageLength
-message-length n e = cases (either-cases (eqb n 7) (eqb n 14) e)
-  where
-    cases : (eqb n 7 ≡ true) ⊎ (eqb n 14 ≡ true) → (n ≡ 7) ⊎ (n ≡ 14)
-    cases (inl p) = inl (eqb-true n 7 p)
-    cases (inr p) = inr (eqb-true n 14 p)
-
-pub field-length : (n : ℕ) → isFieldLength n ≡ true → (n ≡ 4) ⊎ (n ≡ 11)
-unfolding isFieldLength
-field-length n e = cases (either-cases (eqb n 4) (eqb n 11) e)
-  where
-    cases : (eqb n 4 ≡ true) ⊎ (eqb n 11 ≡ true) → (n ≡ 4) ⊎ (n ≡ 11)
-    cases (inl p) = inl (eqb-true n 4 p)
-    cases (inr p) = inr (eqb-true n 11 p)
-
-pub message-length-ge : (n : ℕ) → isMessageLength n ≡ true → 3 ≤ n
-message-length-ge n e = cases (message-length n e)
-  where
-    cases : (n ≡ 7) ⊎ (n ≡ 14) → 3 ≤ n
-    cases (inl p) = omega arith
-    cases (inr p) = omega arith
-
-pub field-length-le : (n : ℕ) → isFieldLength n ≡ true → n ≤ 11
-field-length-le n e = cases (field-length n e)
-  where
-    cases : (n ≡ 4) ⊎ (n ≡ 11) → n ≤ 11
-    cases (inl p) = omega arith
-    cases (inr p) = omega arith
 
 -- different answers of the code are different answers of the paper
 pub said-injective : (v w : Word) → said v ≡ said w → v ≡ w
@@ -112,16 +62,6 @@ overlay-value a h = accepted (isWord a) 3 (answer 0 (overlay a ∷ [])) (lt-word
 pub backward-value : (r : ℕ) → r < 2 ^ 24 → backwardAnswer r ≡ answer 0 (backward r ∷ [])
 unfolding backwardAnswer
 backward-value r h = accepted (isWord r) 3 (answer 0 (backward r ∷ [])) (lt-word r h)
-
--- ---- the field of a message has a field's length
-
-pub field-is-field : (n k : ℕ) → isMessageLength n ≡ true → k + 3 ≡ n → isFieldLength k ≡ true
-unfolding isFieldLength
-field-is-field n k e s = cases (message-length n e)
-  where
-    cases : (n ≡ 7) ⊎ (n ≡ 14) → (eqb k 4 || eqb k 11) ≡ true
-    cases (inl p) = let h : k ≡ 4 = omega arith in ap (λ (x : ℕ). eqb x 4 || eqb x 11) h
-    cases (inr p) = let h : k ≡ 11 = omega arith in ap (λ (x : ℕ). eqb x 4 || eqb x 11) h
 
 -- ---- a call that was answered passed its test
 

@@ -3,9 +3,8 @@ use Prim.Native.Nat.{ℕ}
 use mathlib.Core.List.{List, [], _∷_}
 use mathlib.Core.Bool.{Bool, true, false}
 use lib.ListN.{length}
-use lib.Dec.{leb}
 use Rattle.division.specs.Division.{remainder, shiftIn, backward, parity, overlay, addressRead}
-use Rattle.division.specs.Message.{number, bitOf, isMessageLength, isFieldLength}
+use Rattle.message.specs.Message.{number, bitOf, isMessageLength, isFieldLength, isWord}
 use Rattle.division.specs.declared.Word.{Word}
 use Rattle.division.specs.declared.Word.the-variants.{Value, Refused}
 
@@ -43,10 +42,6 @@ unless false n a = refusal n
 abbrev pub left : Outcome → List ℕ → List ℕ → List ℕ
 left (refusal n) before after = before
 left (answer n vs) before after = after
-
--- A word, an address or a register has 24 bits (row 3).
-unfoldable pub isWord : ℕ → Bool
-isWord w = leb w 0xFFFFFF
 
 -- What a Word says.
 abbrev pub said : Word → Outcome

@@ -1,7 +1,6 @@
 -- What a reader must believe of the division library, in this order.
 pub mod Polynomial
 pub mod Division
-pub mod Message
 pub mod Ways
 pub mod Answers
 pub mod Tables

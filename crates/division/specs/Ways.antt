@@ -5,7 +5,7 @@ use mathlib.Core.List.{List, [], _∷_}
 use lib.ListN.{length}
 use lib.Bits.{bitXor}
 use Rattle.division.specs.Division.{remainder, shiftIn, parity}
-use Rattle.division.specs.Message.{number, Bytes}
+use Rattle.message.specs.Message.{number, Bytes}
 
 -- The register: the k bits of m, one at a step, the first one sent first, and 0 in the register before it.
 unfoldable pub registerWay : ℕ → ℕ → ℕ

@@ -2,7 +2,7 @@
 ghost use Prim.Native.Nat.{_<_, _^_};
 ghost use mathlib.Core.Path.{_≡_};
 ghost use Rattle.division.specs.Division.{shiftIn, parity};
-ghost use Rattle.division.specs.Message.{number};
+ghost use Rattle.message.specs.Message.{number};
 ghost use Rattle.division.specs.Tables.{IsByteTable};
 ghost use Rattle.division.specs.Answers.{said, parityAnswer};
 use crate::Word;

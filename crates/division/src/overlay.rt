@@ -5,7 +5,7 @@ ghost use Rattle.division.specs.Division.{overlay};
 ghost use Rattle.division.specs.Answers.{said, overlayAnswer};
 use crate::GENERATOR;
 use crate::Word;
-use crate::is_word;
+use message::is_word;
 
 // The coefficients x^47 to x^24 of A·G.
 pub fn uplink_overlay(a: u32) -> Word

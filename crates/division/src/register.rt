@@ -2,13 +2,13 @@
 ghost use Prim.Native.Nat.{_<_, _^_};
 ghost use mathlib.Core.Path.{_≡_};
 ghost use Rattle.division.specs.Division.{shiftIn, parity, backward};
-ghost use Rattle.division.specs.Message.{number, bitOf};
+ghost use Rattle.message.specs.Message.{number, bitOf};
 ghost use Rattle.division.specs.Answers.{said, registerAnswer, parityAnswer, backwardAnswer};
 use crate::GENERATOR;
 use crate::Word;
 use crate::is_field_length;
-use crate::is_word;
 use crate::wide;
+use message::is_word;
 
 // The register after one bit more: the remainder of x·r + bit·x^24.
 pub fn register_step(r: u32, bit: bool) -> Word

@@ -3,7 +3,7 @@ ghost use Prim.Native.Nat.{_<_, _≤_, _-_, _*_, _^_};
 ghost use mathlib.Core.Path.{_≡_};
 ghost use lib.ListN.{length};
 ghost use Rattle.division.specs.Division.{parity};
-ghost use Rattle.division.specs.Message.{number};
+ghost use Rattle.message.specs.Message.{number};
 ghost use Rattle.division.specs.Tables.{IsRowTable};
 ghost use Rattle.division.specs.Answers.{said, parityAnswer};
 use crate::Word;

@@ -8,9 +8,10 @@ use lib.Bits.{bitXor, xor-lt}
 use lib.ListN.{length, length-append}
 use lib.Seq.{take-at, drop-at}
 use Rattle.division.specs.Division.{parity, overlay}
-use Rattle.division.specs.Message.{number, Bytes, field, parityField}
+use Rattle.message.specs.Message.{number, Bytes, field, parityField}
 use Rattle.division.specs.Answers.Outcome.{answer}
-use Rattle.division.proofs.Laws.{number-three, number-append, number-message, number-injective, field-is, parityField-is, field-length, parityField-lt, bytes-take, bytes-append, parity-lt, left-of}
+use Rattle.division.proofs.Laws.{parity-lt, left-of}
+use Rattle.message.proofs.Laws.{number-three, number-append, number-message, number-injective, field-is, parityField-is, field-length, parityField-lt, bytes-take, bytes-append}
 use Rattle.encoder.specs.Seals.{wordBytes, withParity, replyParity, interrogationParity, replySeal, interrogationSeal, sealOutcome, replyAfter, interrogationAfter}
 
 -- ---- the bytes of a word

@@ -7,10 +7,11 @@ use native.Mathlib.Omega.{arith}
 use lib.ListN.{length, set, take}
 use lib.Seq.{drop-length}
 use borrow.Rule.Slice.PartMut.{putMid, post-is}
-use Rattle.division.specs.Message.{isMessageLength, firstBitAgrees}
-use Rattle.division.specs.Answers.{Outcome, isWord}
+use Rattle.message.specs.Message.{isMessageLength, firstBitAgrees, isWord}
+use Rattle.division.specs.Answers.{Outcome}
 use Rattle.division.specs.Answers.Outcome.{refusal, answer}
-use Rattle.division.proofs.Laws.{refused, passed, unless-answer, word-lt, field-is}
+use Rattle.division.proofs.Laws.{refused, passed, unless-answer}
+use Rattle.message.proofs.Laws.{word-lt, field-is}
 use Rattle.encoder.specs.Seals.{wordBytes, withParity, sealOutcome, said}
 use Rattle.encoder.specs.declared.Seal.{Seal}
 use Rattle.encoder.specs.declared.Seal.the-variants.{Sealed, Refused}

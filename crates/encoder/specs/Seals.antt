@@ -4,8 +4,8 @@ use mathlib.Core.List.{List, [], _∷_, _++_}
 use lib.Bits.{bitXor}
 use lib.ListN.{length}
 use Rattle.division.specs.Division.{parity, overlay}
-use Rattle.division.specs.Message.{number, field, isMessageLength, firstBitAgrees}
-use Rattle.division.specs.Answers.{Outcome, unless, left, isWord, wrongLength, wordTooLarge, firstBitContradicts}
+use Rattle.message.specs.Message.{number, field, isMessageLength, firstBitAgrees, isWord}
+use Rattle.division.specs.Answers.{Outcome, unless, left, wrongLength, wordTooLarge, firstBitContradicts}
 use Rattle.division.specs.Answers.Outcome.{refusal, answer}
 use Rattle.encoder.specs.declared.Seal.{Seal}
 use Rattle.encoder.specs.declared.Seal.the-variants.{Sealed, Refused}

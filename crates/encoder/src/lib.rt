@@ -8,8 +8,8 @@ ghost use mathlib.Core.Bool.{true};
 ghost use lib.Bits.{bitXor};
 ghost use lib.ListN.{length};
 ghost use Rattle.division.specs.Division.{parity, overlay};
-ghost use Rattle.division.specs.Message.{number, isMessageLength, isFieldLength};
-ghost use Rattle.division.specs.Message.{field as messageField};
+ghost use Rattle.message.specs.Message.{number, isMessageLength, isFieldLength};
+ghost use Rattle.message.specs.Message.{field as messageField};
 ghost use Rattle.encoder.specs.Seals.{said, wordBytes, withParity, sealOutcome, replyAfter, interrogationAfter};
 use division::Word;
 
@@ -53,9 +53,9 @@ pub fn seal_interrogation(m: &mut [u8], address: u32) -> Seal
 fn check(m: &[u8], word: u32) -> Seal
     ensures { λ r. ⌜ said r ≡ sealOutcome (now (m .entry)) word ⌝ }
 {
-    if division::is_message_length(m.len()) {
-        if division::is_word(word) {
-            if division::first_bit_agrees(m) {
+    if message::is_message_length(m.len()) {
+        if message::is_word(word) {
+            if message::first_bit_agrees(m) {
                 Seal::Sealed
             } else {
                 Seal::Refused(5)

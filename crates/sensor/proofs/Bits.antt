@@ -10,8 +10,8 @@ use lib.ListN.{length, take, drop, length-append, length-drop, take-append-drop}
 use lib.Seq.{drop-length}
 use lib.Pow.{pow-pos, pow-mono, mod-pow-add, shl-lt}
 use lib.Bits.{bitXor, xor-lt, xor-block, xor-zero-r}
-use Rattle.division.specs.Message.{number, Bytes}
-use Rattle.division.proofs.Laws.{number-nil, number-cons, number-append, number-split, number-lt, number-injective, bytes-drop, bytes-take, bytes-append, part-from}
+use Rattle.message.specs.Message.{number, Bytes}
+use Rattle.message.proofs.Laws.{number-nil, number-cons, number-append, number-split, number-lt, number-injective, bytes-drop, bytes-take, bytes-append, part-from}
 use Rattle.windows.specs.Windows.{Starts, patternAdded}
 use Rattle.windows.proofs.Laws.{added-number, added-length, added-bytes}
 use Rattle.sensor.specs.Verdicts.{bytesOf, inverted}

@@ -11,8 +11,9 @@ use lib.Dec.{lit<}
 use lib.ListN.{length, take, drop, length-drop}
 use lib.Pow.{field as cut}
 use borrow.Author.Tests.{le-ltb}
-use Rattle.division.specs.Message.{number, Bytes}
-use Rattle.division.proofs.Laws.{number-split, bytes-drop, shl-shl, part-from}
+use Rattle.message.specs.Message.{number, Bytes}
+use Rattle.division.proofs.Laws.{shl-shl}
+use Rattle.message.proofs.Laws.{number-split, bytes-drop, part-from}
 use Rattle.windows.specs.Windows.{Starts, fourBytes, windowBits}
 use Rattle.windows.proofs.Laws.{window-number, sparse-window}
 use Rattle.sensor.specs.Changes.{marksAt}

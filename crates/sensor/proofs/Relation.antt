@@ -13,7 +13,7 @@ use lib.Dec.{eqb}
 use lib.Pow.{pow-pos, split, shl-shr}
 use borrow.Author.Tests.{eqb-true, eq-eqb, ltb-true, ltb-false}
 use Rattle.division.specs.Division.{remainder}
-use Rattle.division.specs.Message.{number}
+use Rattle.message.specs.Message.{number}
 use Rattle.division.proofs.Laws.{xor-cancel, xor-move, remainder-xor, window-unique}
 use Rattle.sensor.specs.Changes.{lastWindow, place, Carries, InWindow, OnLow, Fit, marksAt, lowMarks}
 use Rattle.sensor.specs.Verdicts.{firstOf, highest, syndrome, candidate, changeAt, denseAt, fitsAt, differsAt}

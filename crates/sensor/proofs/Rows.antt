@@ -13,10 +13,11 @@ use lib.Dec.{eqb, leb}
 use lib.ListN.{length}
 use borrow.Author.Tests.{eqb-true, eq-eqb, ne-eqb}
 use Rattle.division.specs.Division.{remainder}
-use Rattle.division.specs.Message.{number, isMessageLength}
-use Rattle.division.specs.Answers.{Outcome, unless, left, isWord}
+use Rattle.message.specs.Message.{number, isMessageLength, isWord}
+use Rattle.division.specs.Answers.{Outcome, unless, left}
 use Rattle.division.specs.Answers.Outcome.{refusal, answer}
-use Rattle.division.proofs.Laws.{passed, left-of, unless-answer, word-lt, message-length, remainder-lt}
+use Rattle.division.proofs.Laws.{passed, left-of, unless-answer, remainder-lt}
+use Rattle.message.proofs.Laws.{word-lt, message-length}
 use Rattle.sensor.specs.Changes.{lastWindow}
 use Rattle.sensor.specs.Verdicts.{Found, highest, candidate, changeAt, fitsAt, differsAt, Row, fitRow, denseRow, cleanRow, fitsRow, hitRow, rowOf, markNumber, rowAnswer, rowMessage, inverted, syndrome, checked, sensorOutcome, sensorAfter, denseAt}
 use Rattle.sensor.specs.Verdicts.Found.{nowhere, at}

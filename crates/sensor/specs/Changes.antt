@@ -9,7 +9,7 @@ use lib.Bits.{bitAnd, bitXor}
 use lib.Count.{ones}
 use lib.ListN.{length}
 use Rattle.division.specs.Division.{remainder}
-use Rattle.division.specs.Message.{number}
+use Rattle.message.specs.Message.{number}
 
 -- The number of bits of a message, and the number of the last window: 32 or 88.
 abbrev pub bits : List ℕ → ℕ

@@ -12,8 +12,8 @@ use lib.Count.{ones}
 use lib.Dec.{eqb, ltb, leb}
 use lib.ListN.{length}
 use Rattle.division.specs.Division.{remainder, backward}
-use Rattle.division.specs.Message.{number, isMessageLength}
-use Rattle.division.specs.Answers.{Outcome, unless, left, isWord, wrongLength, wrongConfidenceLength, wordTooLarge, limitTooLarge}
+use Rattle.message.specs.Message.{number, isMessageLength, isWord}
+use Rattle.division.specs.Answers.{Outcome, unless, left, wrongLength, wrongConfidenceLength, wordTooLarge, limitTooLarge}
 use Rattle.division.specs.Answers.Outcome.{refusal, answer}
 use Rattle.sensor.specs.Changes.{lastWindow, marksAt}
 use Rattle.sensor.specs.declared.Mark.{Mark}

@@ -8,7 +8,7 @@ ghost use mathlib.Core.Bool.{true};
 ghost use mathlib.Core.List.{[]};
 ghost use lib.ListN.{length};
 ghost use Rattle.division.specs.Answers.Outcome.{answer};
-ghost use Rattle.division.specs.Message.{isMessageLength};
+ghost use Rattle.message.specs.Message.{isMessageLength};
 ghost use Rattle.sensor.specs.Verdicts.{said, markOf, syndrome, fitsRow, hitRow, rowOf, rowAnswer, rowMessage, checkedNumbers, checked, sensorOutcome, sensorAfter};
 ghost use Rattle.sensor.specs.Searching.{checkSaid, markFor};
 use inverting::invert;
@@ -65,7 +65,7 @@ pub fn correct(m: &mut [u8], c: &[u8], word: u32, limit: u32) -> Verdict
 fn check(n: usize, k: usize, word: u32, limit: u32) -> Admission
     ensures { λ r. ⌜ checkSaid r ≡ checked n k word limit (answer 0 []) ⌝ }
 {
-    if division::is_message_length(n) {
+    if message::is_message_length(n) {
         if k == n {
             check_numbers(word, limit)
         } else {
@@ -79,7 +79,7 @@ fn check(n: usize, k: usize, word: u32, limit: u32) -> Admission
 fn check_numbers(word: u32, limit: u32) -> Admission
     ensures { λ r. ⌜ checkSaid r ≡ checkedNumbers word limit (answer 0 []) ⌝ }
 {
-    if division::is_word(word) {
+    if message::is_word(word) {
         if limit <= 24 {
             Admission::Passed
         } else {

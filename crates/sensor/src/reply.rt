@@ -3,7 +3,7 @@ ghost use mathlib.Core.Path.{_≡_};
 ghost use mathlib.Core.Bool.{true};
 ghost use lib.ListN.{length};
 ghost use Rattle.division.specs.Division.{remainder};
-ghost use Rattle.division.specs.Message.{number, isMessageLength};
+ghost use Rattle.message.specs.Message.{number, isMessageLength};
 use division::Word;
 
 pub(crate) fn remainder_of(m: &[u8]) -> u32

@@ -8,10 +8,11 @@ use lib.Dec.{eqb}
 use lib.ListN.{length}
 use borrow.Author.Tests.{eq-eqb, ne-eqb, eqb-true, eqb-false, not-true}
 use Rattle.division.specs.Division.{addressRead}
-use Rattle.division.specs.Message.{number, formatNumber, isMessageLength, firstBitAgrees}
-use Rattle.division.specs.Answers.{Outcome, unless, isWord}
+use Rattle.message.specs.Message.{number, formatNumber, isMessageLength, firstBitAgrees, isWord}
+use Rattle.division.specs.Answers.{Outcome, unless}
 use Rattle.division.specs.Answers.Outcome.{refusal, answer}
-use Rattle.division.proofs.Laws.{refused, passed, word-lt}
+use Rattle.division.proofs.Laws.{refused, passed}
+use Rattle.message.proofs.Laws.{word-lt}
 use Rattle.transponder.specs.Receptions.{everyone, allCallFormat, reading, isReserved, receptionOutcome, said}
 use Rattle.transponder.specs.declared.Reception.{Reception}
 use Rattle.transponder.specs.declared.Reception.the-variants.{Own, AllCall, NotOurs, Refused}

@@ -5,8 +5,8 @@ use mathlib.Core.Bool.{Bool, cond, not, _&&_, _||_}
 use lib.Dec.{eqb}
 use lib.ListN.{length}
 use Rattle.division.specs.Division.{addressRead}
-use Rattle.division.specs.Message.{number, formatNumber, isMessageLength, firstBitAgrees}
-use Rattle.division.specs.Answers.{Outcome, unless, isWord, wrongLength, wordTooLarge, firstBitContradicts, ownAddressReserved}
+use Rattle.message.specs.Message.{number, formatNumber, isMessageLength, firstBitAgrees, isWord}
+use Rattle.division.specs.Answers.{Outcome, unless, wrongLength, wordTooLarge, firstBitContradicts, ownAddressReserved}
 use Rattle.division.specs.Answers.Outcome.{refusal, answer}
 use Rattle.transponder.specs.declared.Reception.{Reception}
 use Rattle.transponder.specs.declared.Reception.the-variants.{Own, AllCall, NotOurs, Refused}

@@ -5,8 +5,7 @@ ghost use mathlib.Core.Path.{_≡_};
 ghost use mathlib.Core.Bool.{true};
 ghost use lib.ListN.{length};
 ghost use Rattle.division.specs.Division.{addressRead};
-ghost use Rattle.division.specs.Message.{number, isMessageLength};
-ghost use Rattle.division.specs.Answers.{isWord};
+ghost use Rattle.message.specs.Message.{number, isMessageLength, isWord};
 ghost use Rattle.transponder.specs.Receptions.{said, reading, isReserved, receptionOutcome};
 use division::Word;
 
@@ -23,8 +22,8 @@ pub enum Reception {
 pub fn receive(own: u32, m: &[u8]) -> Reception
     ensures { λ r. ⌜ said r ≡ receptionOutcome own (now (m .entry)) ⌝ }
 {
-    if division::is_message_length(m.len()) {
-        if division::is_word(own) {
+    if message::is_message_length(m.len()) {
+        if message::is_word(own) {
             receive_whole(own, m)
         } else {
             Reception::Refused(3)
@@ -40,11 +39,11 @@ fn receive_whole(own: u32, m: &[u8]) -> Reception
     requires { ⌜ isWord own ≡ true ⌝ }
     ensures { λ r. ⌜ said r ≡ receptionOutcome own (now (m .entry)) ⌝ }
 {
-    if division::first_bit_agrees(m) {
+    if message::first_bit_agrees(m) {
         if is_reserved(own) {
             Reception::Refused(6)
         } else {
-            judge(own, read_address(m), division::format_number(m))
+            judge(own, read_address(m), message::format_number(m))
         }
     } else {
         Reception::Refused(5)

@@ -12,8 +12,9 @@ use lib.Dec.{lit<}
 use lib.ListN.{length, getD, set, take, drop, length-drop, length-set, List·getD-eq-default}
 use lib.Pow.{pow-pos, shl-exact, shr-shr, high, split}
 use lib.Seq.{take-all}
-use Rattle.division.specs.Message.{number, Bytes}
-use Rattle.division.proofs.Laws.{number-nil, number-next, number-cons, number-one, number-append, number-split, number-lt, bytes-drop, xor-shl, shl-shl}
+use Rattle.message.specs.Message.{number, Bytes}
+use Rattle.division.proofs.Laws.{xor-shl, shl-shl}
+use Rattle.message.proofs.Laws.{number-nil, number-next, number-cons, number-one, number-append, number-split, number-lt, bytes-drop}
 use Rattle.windows.specs.Windows.{Starts, fourBytes, windowBits, stored, patternAdded}
 
 three-or-more : (n : ℕ) → 3 ≤ n → (n ≡ 3) ⊎ (4 ≤ n)

@@ -1,7 +1,7 @@
 -- `division::is_field_length` meets its contract: the two tests are the definition's own.
 use borrow.Author.Tests.{eq-eqb, ne-eqb}
-use Rattle.division.specs.Message.{isFieldLength}
-use Rattle.division.proofs.Tests.{either-left, either-right}
+use Rattle.message.specs.Message.{isFieldLength}
+use Rattle.message.proofs.Laws.{either-left, either-right}
 use Rattle.division.proofs.is_field_length.Statement.{statement}
 use Rattle.division.proofs.is_field_length.Tie as tie
 

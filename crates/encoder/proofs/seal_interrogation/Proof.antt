@@ -5,7 +5,7 @@ use Prim.Native.Nat.{ℕ, _<_, _^_}
 use lib.Bits.{bitXor}
 use borrow.Author.Needs.{needs}
 use Rattle.division.specs.Division.{parity}
-use Rattle.division.specs.Message.{number, field}
+use Rattle.message.specs.Message.{number, field}
 use Rattle.division.proofs.Laws.{overlay-lt, left-of}
 use Rattle.encoder.specs.Seals.{withParity, interrogationParity, interrogationSeal, interrogationAfter}
 use Rattle.encoder.proofs.Sealing.{was-accepted, sealed-said, refused-said}

@@ -10,8 +10,9 @@ use lib.ListN.{length, take, length-drop}
 use lib.Seq.{length-take-le}
 use borrow.Author.Needs.{needs}
 use Rattle.division.specs.Division.{parity}
-use Rattle.division.specs.Message.{number}
-use Rattle.division.proofs.Laws.{message-length-ge, field-is-field, part-from, parity-lt, field-is}
+use Rattle.message.specs.Message.{number}
+use Rattle.division.proofs.Laws.{parity-lt}
+use Rattle.message.proofs.Laws.{message-length-ge, field-is-field, part-from, field-is}
 use Rattle.encoder.specs.Seals.{wordBytes, withParity}
 use Rattle.encoder.proofs.Sealing.{written}
 use Rattle.encoder.proofs.write_parity.Statement.{statement}

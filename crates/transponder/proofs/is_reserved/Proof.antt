@@ -1,6 +1,6 @@
 -- `transponder::is_reserved` meets its contract: the two tests are the definition's own.
 use borrow.Author.Tests.{eq-eqb, ne-eqb}
-use Rattle.division.proofs.Laws.{either-left, either-right}
+use Rattle.message.proofs.Laws.{either-left, either-right}
 use Rattle.transponder.specs.Receptions.{isReserved}
 use Rattle.transponder.proofs.is_reserved.Statement.{statement}
 use Rattle.transponder.proofs.is_reserved.Tie as tie

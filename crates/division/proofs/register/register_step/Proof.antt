@@ -5,8 +5,9 @@ use Prim.Native.Nat.{ℕ, _<_}
 use lib.Dec.{lit<}
 use Rattle.division.specs.Division.{shiftIn}
 use Rattle.division.specs.Answers.{registerAnswer}
-use Rattle.division.specs.Message.{bitOf}
-use Rattle.division.proofs.Tests.{word-lt, refused, passed-value}
+use Rattle.message.specs.Message.{bitOf}
+use Rattle.division.proofs.Tests.{refused, passed-value}
+use Rattle.message.proofs.Laws.{word-lt}
 use borrow.Author.Needs.{needs}
 use Rattle.division.proofs.register.register_step.Statement.{statement}
 use Rattle.division.proofs.register.register_step.Tie as tie

@@ -5,7 +5,7 @@ use Prim.Native.Nat.{ℕ, _+_, _-_, _*_, _≤_, _^_}
 use native.Mathlib.Omega.{arith}
 use lib.ListN.{length, getD, take}
 use Rattle.division.specs.Division.{parity}
-use Rattle.division.specs.Message.{number}
+use Rattle.message.specs.Message.{number}
 use Rattle.division.proofs.Fields.{rows-none, rows-more, rows-all}
 use Rattle.division.proofs.row_table.by_rows.Statement.{statement}
 use Rattle.division.proofs.row_table.by_rows.Tie as tie

@@ -2,7 +2,8 @@
 use mathlib.Core.Path.{sym, _∙_}
 use borrow.Author.Needs.{needs}
 use Rattle.division.specs.Answers.{parityAnswer}
-use Rattle.division.proofs.Tests.{refused, passed-value, field-length-le}
+use Rattle.division.proofs.Tests.{refused, passed-value}
+use Rattle.message.proofs.Laws.{field-length-le}
 use Rattle.division.proofs.row_table.parity_by_rows.Statement.{statement}
 use Rattle.division.proofs.row_table.parity_by_rows.Tie as tie
 

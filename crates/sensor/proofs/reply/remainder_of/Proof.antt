@@ -5,7 +5,7 @@ use Prim.Native.Nat.{ℕ}
 use lib.ListN.{length}
 use borrow.Author.Needs.{needs}
 use Rattle.division.specs.Division.{remainder}
-use Rattle.division.specs.Message.{number, isMessageLength}
+use Rattle.message.specs.Message.{number, isMessageLength}
 use Rattle.sensor.proofs.reply.remainder_of.Statement.{statement}
 use Rattle.sensor.proofs.reply.remainder_of.Tie as tie
 

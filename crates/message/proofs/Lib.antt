@@ -1,0 +1,4 @@
+-- The laws of a message.
+pub mod Bytes
+pub mod Tests
+pub mod Laws
