@@ -92,7 +92,6 @@ change-lt n offset x hx h =
 
 window-inverted : (p : List ℕ) (offset x : ℕ) → Bytes p → Starts p offset → x < 2 ^ 24
     → patternAdded p offset x ≡ inverted p (x * 2 ^ (8 * length p - 24 - offset))
-unfolding Starts
 window-inverted p offset x hp s hx =
     inverted-by-number (patternAdded p offset x) p (x * 2 ^ (8 * length p - 24 - offset)) (added-bytes p offset x hp) hp
     (added-length p offset x) (change-lt (8 * length p) offset x hx (s .1)) (added-number p offset x hp s hx)
@@ -101,7 +100,6 @@ window-inverted p offset x hp s hx =
 pub placed-back : (m : List ℕ) (e x : ℕ) (ys : List ℕ) → Bytes m → 3 ≤ length m → e ≤ 8 * length m - 24 → x < 2 ^ 24
     → ys ≡ patternAdded (partAt m e) (windowAt m e % 8) x
     → putMid (windowAt m e / 8) (length m - windowAt m e / 8) m ys ≡ inverted m (x * 2 ^ e)
-unfolding Starts
 placed-back m e x ys hm h g hx w =
     let a : ℕ = windowAt m e / 8 in
     let within : a ≤ length m = omega arith in

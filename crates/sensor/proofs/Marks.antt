@@ -23,7 +23,6 @@ abbrev pub windowAt : List ℕ → ℕ → ℕ
 windowAt l e = length l * 8 - 24 - e
 
 pub window-starts : (l : List ℕ) (e : ℕ) → 3 ≤ length l → e ≤ 8 * length l - 24 → Starts (drop (windowAt l e / 8) l) (windowAt l e % 8)
-unfolding Starts
 window-starts l e h g = (mod-lt (windowAt l e) (lit< tt), omega (arith, length-drop (windowAt l e / 8) l))
 
 pub window-place : (l : List ℕ) (e : ℕ) → 3 ≤ length l → e ≤ 8 * length l - 24 → 8 * length (drop (windowAt l e / 8) l) - 24 - windowAt l e % 8 ≡ e

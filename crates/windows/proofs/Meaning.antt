@@ -75,7 +75,6 @@ bits-of-more p offset hb o h =
     ∙ ap (λ (k : ℕ). number p / 2 ^ k % 2 ^ 24) exponent
 
 pub window-number : (p : List ℕ) (offset : ℕ) → Bytes p → Starts p offset → windowBits p offset ≡ number p / 2 ^ (8 * length p - 24 - offset) % 2 ^ 24
-unfolding Starts
 window-number p offset hb s = by (three-or-more (length p) (omega arith))
   where
     by : (length p ≡ 3) ⊎ (4 ≤ length p) → windowBits p offset ≡ number p / 2 ^ (8 * length p - 24 - offset) % 2 ^ 24
@@ -187,7 +186,7 @@ added-to-more p offset x hp o l =
 
 pub added-number : (p : List ℕ) (offset x : ℕ) → Bytes p → Starts p offset → x < 2 ^ 24
     → number (patternAdded p offset x) ≡ bitXor (number p) (x * 2 ^ (8 * length p - 24 - offset))
-unfolding Starts patternAdded
+unfolding patternAdded
 added-number p offset x hp s hx =
     ap (λ (y : ℕ). number (stored p (bitXor (fourBytes p) y))) (shl-exact 24 (8 - offset) 32 hx (omega arith))
     ∙ by (three-or-more (length p) (omega arith))

@@ -8,7 +8,7 @@ use lib.Bits.{bitXor}
 use lib.ListN.{length, getD, set}
 
 -- The part holds the 24 bits from `offset` on, an offset within its first byte.
-unfoldable pub Starts : List ℕ → ℕ → Type 0
+abbrev pub Starts : List ℕ → ℕ → Type 0
 Starts part offset = (offset < 8) × (24 + offset ≤ 8 * length part)
 
 -- The first four bytes as one number, with 0 for a byte that is not there.
