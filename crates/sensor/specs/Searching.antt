@@ -13,8 +13,8 @@ use Rattle.division.specs.Answers.{Outcome}
 use Rattle.division.specs.Answers.Outcome.{refusal, answer}
 use Rattle.sensor.specs.declared.Admission.{Admission}
 use Rattle.sensor.specs.declared.Admission.the-variants.{Passed, Refused}
-use Rattle.sensor.specs.declared.search.Spot.{Spot}
-use Rattle.sensor.specs.declared.search.Spot.the-variants.{Nowhere, At}
+use Rattle.sensor.specs.declared.density.Spot.{Spot}
+use Rattle.sensor.specs.declared.density.Spot.the-variants.{Nowhere, At}
 use Rattle.sensor.specs.declared.search.Search.{Search}
 
 abbrev pub foundOf : Spot → Found

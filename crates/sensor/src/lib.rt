@@ -11,12 +11,13 @@ ghost use Rattle.division.specs.Answers.Outcome.{answer};
 ghost use Rattle.message.specs.Message.{isMessageLength};
 ghost use Rattle.sensor.specs.Verdicts.{said, markOf, syndrome, fitsRow, hitRow, rowOf, rowAnswer, rowMessage, checkedNumbers, checked, sensorOutcome, sensorAfter};
 ghost use Rattle.sensor.specs.Searching.{checkSaid, markFor};
+use density::Spot;
+use density::highest_dense;
 use inverting::invert;
 use reply::remainder_of;
-use search::Spot;
 use search::all_fits;
-use search::highest_dense;
 
+mod density;
 mod inverting;
 mod reply;
 mod search;

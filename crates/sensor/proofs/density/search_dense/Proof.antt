@@ -1,4 +1,4 @@
--- `sensor::search::search_dense` meets its contract. The loop's invariant: the highest dense place of those passed.
+-- `sensor::density::search_dense` meets its contract. The loop's invariant: the highest dense place of those passed.
 use mathlib.Core.Path.{_≡_, sym, ap, ap₂, _∙_}
 use mathlib.Core.Bool.{Bool}
 use Prim.Native.Nat.{_-_, _≤_}
@@ -6,8 +6,8 @@ use native.Mathlib.Omega.{arith}
 use Rattle.sensor.specs.Verdicts.{Found, denseAt, firstOf, highest}
 use Rattle.sensor.specs.Searching.{foundOf}
 use Rattle.sensor.proofs.Fits.{highest-next}
-use Rattle.sensor.proofs.search.search_dense.Statement.{statement}
-use Rattle.sensor.proofs.search.search_dense.Tie as tie
+use Rattle.sensor.proofs.density.search_dense.Statement.{statement}
+use Rattle.sensor.proofs.density.search_dense.Tie as tie
 
 abbrev Inv-loop : tie.InvT-loop
 Inv-loop c limit from to spot₀ place₀ spot place = (place ≤ to) × (foundOf spot ≡ highest (denseAt c limit) place)

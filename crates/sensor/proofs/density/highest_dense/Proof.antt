@@ -1,4 +1,4 @@
--- `sensor::search::highest_dense` meets its contract. The loop's invariant: the highest dense place of those passed, which
+-- `sensor::density::highest_dense` meets its contract. The loop's invariant: the highest dense place of those passed, which
 -- are the last window and all that start in some bytes before it.
 use mathlib.Core.Path.{_≡_, ap, _∙_}
 use mathlib.Core.List.{List}
@@ -9,8 +9,8 @@ use Rattle.sensor.specs.Changes.{lastWindow}
 use Rattle.sensor.specs.Verdicts.{denseAt, highest}
 use Rattle.sensor.specs.Searching.{foundOf}
 use Rattle.sensor.proofs.Fits.{highest-start}
-use Rattle.sensor.proofs.search.highest_dense.Statement.{statement}
-use Rattle.sensor.proofs.search.highest_dense.Tie as tie
+use Rattle.sensor.proofs.density.highest_dense.Statement.{statement}
+use Rattle.sensor.proofs.density.highest_dense.Tie as tie
 
 abbrev Inv-loop : tie.InvT-loop
 Inv-loop c limit windows spot₀ place₀ spot place =

@@ -1,4 +1,4 @@
--- `sensor::search::dense_at` meets its contract: the marks of the part are the marks of the window.
+-- `sensor::density::dense_at` meets its contract: the marks of the part are the marks of the window.
 use mathlib.Core.Path.{_∙_, ap}
 use mathlib.Core.List.{List}
 use Prim.Native.Nat.{ℕ}
@@ -7,8 +7,8 @@ use lib.Count.{ones}
 use borrow.Author.Needs.{needs}
 use Rattle.sensor.specs.Verdicts.{denseAt}
 use Rattle.sensor.proofs.Marks.{marks-at}
-use Rattle.sensor.proofs.search.dense_at.Statement.{statement}
-use Rattle.sensor.proofs.search.dense_at.Tie as tie
+use Rattle.sensor.proofs.density.dense_at.Statement.{statement}
+use Rattle.sensor.proofs.density.dense_at.Tie as tie
 
 mul-start : tie.Need-mul-start
 mul-start c = search needs

@@ -1,4 +1,4 @@
--- `sensor::search::pass_byte` meets its contract: where four bytes have few marks, no window in them is dense.
+-- `sensor::density::pass_byte` meets its contract: where four bytes have few marks, no window in them is dense.
 use mathlib.Core.Path.{sym, _∙_}
 use mathlib.Core.List.{List}
 use Prim.Native.Nat.{ℕ, _≤_}
@@ -10,8 +10,8 @@ use Rattle.windows.specs.Windows.{fourBytes}
 use Rattle.sensor.specs.Verdicts.{denseAt}
 use Rattle.sensor.proofs.Marks.{partAt, none-dense}
 use Rattle.sensor.proofs.Fits.{highest-past}
-use Rattle.sensor.proofs.search.pass_byte.Statement.{statement}
-use Rattle.sensor.proofs.search.pass_byte.Tie as tie
+use Rattle.sensor.proofs.density.pass_byte.Statement.{statement}
+use Rattle.sensor.proofs.density.pass_byte.Tie as tie
 
 mul-at : tie.Need-mul-at
 mul-at c = search needs

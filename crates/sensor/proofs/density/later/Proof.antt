@@ -1,11 +1,11 @@
--- `sensor::search::later` meets its contract.
+-- `sensor::density::later` meets its contract.
 use mathlib.Core.Path.{sym, ap}
 use mathlib.Core.Bool.{Bool}
 use borrow.Author.Needs.{needs}
 use Rattle.sensor.specs.Verdicts.{firstOf}
 use Rattle.sensor.specs.Searching.{foundOf}
-use Rattle.sensor.proofs.search.later.Statement.{statement}
-use Rattle.sensor.proofs.search.later.Tie as tie
+use Rattle.sensor.proofs.density.later.Statement.{statement}
+use Rattle.sensor.proofs.density.later.Tie as tie
 
 returns : tie.Need-returns
 returns c = sym (ap (λ (b : Bool). firstOf b (c .before .args .place) (foundOf (c .before .args .before))) (c .if1 .taken))
