@@ -8,7 +8,7 @@ use native.Mathlib.Omega.{arith}
 use lib.ListN.{length, getD, drop}
 use lib.Dec.{leb}
 use borrow.Author.Tests.{leb-true, le-leb, lt-leb}
-use Rattle.text.specs.Digits.{hexNumber, decimalNumber, isDecimalDigit, isHexDigit, digitValue, allDecimal, allHex, numberAfter, bytesOf}
+use Rattle.text.specs.Digits.{hexNumber, decimalNumber, isDecimalDigit, isHexDigit, digitValue, all, numberAfter, bytesOf}
 use Rattle.text.proofs.Parts.{picked, passed-over, both-true, both-false, next-byte, no-more}
 
 -- ---- one digit
@@ -75,23 +75,20 @@ digit-value-lt b = decimal (isDecimalDigit b) refl
     decimal true e = omega (arith, decimal-range b e)
     decimal false e = letter (isHexDigit b) e refl
 
--- ---- texts of digits, from a place on
+-- ---- a test of every byte, from a place on
 
-pub decimal-here : (s : List ℕ) (i : ℕ) → i < length s → isDecimalDigit (getD s i 0) ≡ true → allDecimal (drop i s) ≡ allDecimal (drop (i + 1) s)
-unfolding allDecimal
-decimal-here s i h e = ap allDecimal (next-byte s i h) ∙ both-true (isDecimalDigit (getD s i 0)) (allDecimal (drop (i + 1) s)) e
+module _ (test : ℕ → Bool) (s : List ℕ) (i : ℕ) where
+  pub passed-here : i < length s → test (getD s i 0) ≡ true → all test (drop i s) ≡ all test (drop (i + 1) s)
+  unfolding all
+  passed-here h e = ap (all test) (next-byte s i h) ∙ both-true (test (getD s i 0)) (all test (drop (i + 1) s)) e
 
-pub not-decimal-here : (s : List ℕ) (i : ℕ) → i < length s → isDecimalDigit (getD s i 0) ≡ false → allDecimal (drop i s) ≡ false
-unfolding allDecimal
-not-decimal-here s i h e = ap allDecimal (next-byte s i h) ∙ both-false (isDecimalDigit (getD s i 0)) (allDecimal (drop (i + 1) s)) e
+  pub failed-here : i < length s → test (getD s i 0) ≡ false → all test (drop i s) ≡ false
+  unfolding all
+  failed-here h e = ap (all test) (next-byte s i h) ∙ both-false (test (getD s i 0)) (all test (drop (i + 1) s)) e
 
-pub hex-here : (s : List ℕ) (i : ℕ) → i < length s → isHexDigit (getD s i 0) ≡ true → allHex (drop i s) ≡ allHex (drop (i + 1) s)
-unfolding allHex
-hex-here s i h e = ap allHex (next-byte s i h) ∙ both-true (isHexDigit (getD s i 0)) (allHex (drop (i + 1) s)) e
-
-pub not-hex-here : (s : List ℕ) (i : ℕ) → i < length s → isHexDigit (getD s i 0) ≡ false → allHex (drop i s) ≡ false
-unfolding allHex
-not-hex-here s i h e = ap allHex (next-byte s i h) ∙ both-false (isHexDigit (getD s i 0)) (allHex (drop (i + 1) s)) e
+  pub all-passed : length s ≤ i → all test (drop i s) ≡ true
+  unfolding all
+  all-passed h = ap (all test) (no-more s i h)
 
 -- ---- numbers, from a place on
 

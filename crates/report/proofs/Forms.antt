@@ -8,7 +8,7 @@ use lib.ListN.{length}
 use lib.Dec.{leb, eqb, ltb}
 use borrow.Author.Tests.{leb-true, eqb-true, ltb-true, ltb-false, ne-eqb}
 use Rattle.text.specs.Lines.{columns, before, space, inFirst}
-use Rattle.text.specs.Digits.{isDecimalDigit, allHex, allDecimal, bytesOf, hexNumber, decimalNumber}
+use Rattle.text.specs.Digits.{isHexDigit, isDecimalDigit, bytesOf, hexNumber, decimalNumber, all}
 use Rattle.text.proofs.Parts.{picked, passed-over}
 use Rattle.text.proofs.Splitting.{before-le, first-column, only-column}
 use Rattle.reading.proofs.Values.{decimal-range, bytesOf-length}
@@ -33,18 +33,18 @@ all-four a b c d e =
 
 string-size : (s : List ℕ) → isByteString s ≡ true → length s ≤ 28
 unfolding isByteString
-string-size s e = leb-true (length s) 28 (all-four (leb 2 (length s)) (leb (length s) 28) (eqb (length s % 2) 0) (allHex s) e .1)
+string-size s e = leb-true (length s) 28 (all-four (leb 2 (length s)) (leb (length s) 28) (eqb (length s % 2) 0) (all isHexDigit s) e .1)
 
 pub byte-string-fits : (s : List ℕ) → isByteString s ≡ true → length (bytesOf s) ≤ 14
 byte-string-fits s e = omega (arith, bytesOf-length s, string-size s e)
 
 pub word-size : (s : List ℕ) → isWord s ≡ true → length s ≡ 6
 unfolding isWord
-word-size s e = eqb-true (length s) 6 (and-eq-true-iff (eqb (length s) 6) (allHex s) .0 e .0)
+word-size s e = eqb-true (length s) 6 (and-eq-true-iff (eqb (length s) 6) (all isHexDigit s) .0 e .0)
 
-limit-parts : (s : List ℕ) → isLimit s ≡ true → (leb 1 (length s) ≡ true) × (leb (length s) 2 ≡ true) × (allDecimal s ≡ true)
+limit-parts : (s : List ℕ) → isLimit s ≡ true → (leb 1 (length s) ≡ true) × (leb (length s) 2 ≡ true) × (all isDecimalDigit s ≡ true)
 unfolding isLimit
-limit-parts s e = all-three (leb 1 (length s)) (leb (length s) 2) (allDecimal s) e
+limit-parts s e = all-three (leb 1 (length s)) (leb (length s) 2) (all isDecimalDigit s) e
 
 pub limit-size : (s : List ℕ) → isLimit s ≡ true → length s ≤ 2
 limit-size s e = leb-true (length s) 2 (limit-parts s e .1)
@@ -71,11 +71,11 @@ module _ (m c w l : List ℕ) (e : wellFormed m c w l ≡ true) where
 -- ---- the fourth column
 
 -- no decimal digit is a space
-no-space : (s : List ℕ) → allDecimal s ≡ true → length (before space s) ≡ length s
-unfolding allDecimal before
+no-space : (s : List ℕ) → all isDecimalDigit s ≡ true → length (before space s) ≡ length s
+unfolding all before
 no-space [] e = refl
 no-space (b ∷ s) e =
-    let both = and-eq-true-iff (isDecimalDigit b) (allDecimal s) .0 e in
+    let both = and-eq-true-iff (isDecimalDigit b) (all isDecimalDigit s) .0 e in
     let other : b ≡ space → ⊥ = λ f. omega (arith, decimal-range b (both .0)) in
     ap length (passed-over (eqb b space) [] (b ∷ before space s) (ne-eqb b space other))
     ∙ ap suc (no-space s (both .1))

@@ -22,13 +22,10 @@ digitOf v = cond (ltb v 10) (48 + v) (55 + v)
 
 -- ---- texts of digits
 
-unfoldable pub allDecimal : List ℕ → Bool
-allDecimal [] = true
-allDecimal (b ∷ bs) = isDecimalDigit b && allDecimal bs
-
-unfoldable pub allHex : List ℕ → Bool
-allHex [] = true
-allHex (b ∷ bs) = isHexDigit b && allHex bs
+-- every byte passes a test
+unfoldable pub all : (ℕ → Bool) → List ℕ → Bool
+all test [] = true
+all test (b ∷ bs) = test b && all test bs
 
 -- the number that the digits write in a base, after the number v
 unfoldable pub numberAfter : ℕ → ℕ → List ℕ → ℕ
