@@ -1,6 +1,6 @@
 -- Digits, and the numbers and bytes that they write.
 use mathlib.Core.Path.{_≡_, refl, sym, ap, _∙_, subst}
-use mathlib.Core.Bool.{Bool, true, false}
+use mathlib.Core.Bool.{Bool, true, false, cond, _&&_, _||_, and-eq-true-iff}
 use mathlib.Core.List.{List, [], _∷_}
 use Prim.Native.Nat.{ℕ, suc, _+_, _-_, _*_, _/_, _%_, _^_, _<_, _≤_}
 use native.Mathlib.Nat.{pow-suc, mod-mod, mod-eq-of-lt, div-add-mod, add-mul, mul-assoc, add-assoc, mul-add-mod-self-left, mul-le-mul-left, mul-one, one-mul, pow-le-pow-right}
@@ -8,22 +8,23 @@ use native.Mathlib.Omega.{arith}
 use lib.ListN.{length, getD, drop}
 use lib.Dec.{leb}
 use borrow.Author.Tests.{leb-true, le-leb, lt-leb}
-use Rattle.text.specs.Choice.{pick, both, either}
-use Rattle.text.specs.Digits.{hexNumber, decimalNumber, isDecimalDigit, isHexDigit, digitValue, allDecimal, allHex, numberAfter, bytesOf}
-use Rattle.text.proofs.Parts.{picked, passed-over, both-true, both-false, both-left, both-right, next-byte, no-more}
+use Rattle.text.specs.Digits.{hexNumber, decimalNumber, isDecimalDigit, isHexDigit, digitValue, all, numberAfter, bytesOf}
+use Rattle.text.proofs.Parts.{picked, passed-over, both-true, both-false, next-byte, no-more}
 
 -- ---- one digit
 
 pub decimal-range : (b : ℕ) → isDecimalDigit b ≡ true → (48 ≤ b) × (b ≤ 57)
 unfolding isDecimalDigit
-decimal-range b e = (leb-true 48 b (both-left (leb 48 b) (leb b 57) e), leb-true b 57 (both-right (leb 48 b) (leb b 57) e))
+decimal-range b e =
+    let both = and-eq-true-iff (leb 48 b) (leb b 57) .0 e in
+    (leb-true 48 b (both .0), leb-true b 57 (both .1))
 
 -- a digit that is not decimal is a letter
 pub letter-range : (b : ℕ) → isDecimalDigit b ≡ false → isHexDigit b ≡ true → (65 ≤ b) × (b ≤ 70)
 unfolding isHexDigit
 letter-range b n e =
-    let f : both (leb 65 b) (leb b 70) ≡ true = ap (λ (t : Bool). either t (both (leb 65 b) (leb b 70))) (sym n) ∙ e in
-    (leb-true 65 b (both-left (leb 65 b) (leb b 70) f), leb-true b 70 (both-right (leb 65 b) (leb b 70) f))
+    let both = and-eq-true-iff (leb 65 b) (leb b 70) .0 (ap (λ (t : Bool). t || (leb 65 b && leb b 70)) (sym n) ∙ e) in
+    (leb-true 65 b (both .0), leb-true b 70 (both .1))
 
 -- the tests of the code, one after the other
 pub decimal-test : (b : ℕ) → 48 ≤ b → leb b 57 ≡ isDecimalDigit b
@@ -36,11 +37,11 @@ decimal-below b h = lt-leb 48 b h ∙ sym (both-false (leb 48 b) (leb b 57) (lt-
 
 pub hex-decimal : (b : ℕ) → isDecimalDigit b ≡ true → true ≡ isHexDigit b
 unfolding isHexDigit
-hex-decimal b e = ap (λ (t : Bool). either t (both (leb 65 b) (leb b 70))) (sym e)
+hex-decimal b e = ap (λ (t : Bool). t || (leb 65 b && leb b 70)) (sym e)
 
-hex-other : (b : ℕ) → isDecimalDigit b ≡ false → both (leb 65 b) (leb b 70) ≡ isHexDigit b
+hex-other : (b : ℕ) → isDecimalDigit b ≡ false → (leb 65 b && leb b 70) ≡ isHexDigit b
 unfolding isHexDigit
-hex-other b e = ap (λ (t : Bool). either t (both (leb 65 b) (leb b 70))) (sym e)
+hex-other b e = ap (λ (t : Bool). t || (leb 65 b && leb b 70)) (sym e)
 
 pub hex-test : (b : ℕ) → isDecimalDigit b ≡ false → 65 ≤ b → leb b 70 ≡ isHexDigit b
 hex-test b e h = sym (both-true (leb 65 b) (leb b 70) (le-leb 65 b h)) ∙ hex-other b e
@@ -50,47 +51,44 @@ hex-below b e h = lt-leb 65 b h ∙ sym (both-false (leb 65 b) (leb b 70) (lt-le
 
 pub value-decimal : (b : ℕ) → isDecimalDigit b ≡ true → b - 48 ≡ digitValue b
 unfolding digitValue
-value-decimal b e = sym (picked (isDecimalDigit b) (b - 48) (pick (isHexDigit b) (b - 55) 0) e)
+value-decimal b e = sym (picked (isDecimalDigit b) (b - 48) (cond (isHexDigit b) (b - 55) 0) e)
 
 pub value-letter : (b : ℕ) → isDecimalDigit b ≡ false → isHexDigit b ≡ true → b - 55 ≡ digitValue b
 unfolding digitValue
 value-letter b n e =
-    sym (passed-over (isDecimalDigit b) (b - 48) (pick (isHexDigit b) (b - 55) 0) n ∙ picked (isHexDigit b) (b - 55) 0 e)
+    sym (passed-over (isDecimalDigit b) (b - 48) (cond (isHexDigit b) (b - 55) 0) n ∙ picked (isHexDigit b) (b - 55) 0 e)
 
 pub value-none : (b : ℕ) → isDecimalDigit b ≡ false → isHexDigit b ≡ false → 0 ≡ digitValue b
 unfolding digitValue
 value-none b n e =
-    sym (passed-over (isDecimalDigit b) (b - 48) (pick (isHexDigit b) (b - 55) 0) n ∙ passed-over (isHexDigit b) (b - 55) 0 e)
+    sym (passed-over (isDecimalDigit b) (b - 48) (cond (isHexDigit b) (b - 55) 0) n ∙ passed-over (isHexDigit b) (b - 55) 0 e)
 
 pub digit-value-lt : (b : ℕ) → digitValue b < 16
 unfolding digitValue
 digit-value-lt b = decimal (isDecimalDigit b) refl
   where
-    letter : (t : Bool) → isDecimalDigit b ≡ false → isHexDigit b ≡ t → pick t (b - 55) 0 < 16
+    letter : (t : Bool) → isDecimalDigit b ≡ false → isHexDigit b ≡ t → cond t (b - 55) 0 < 16
     letter true n e = omega (arith, letter-range b n e)
     letter false n e = omega arith
 
-    decimal : (t : Bool) → isDecimalDigit b ≡ t → pick t (b - 48) (pick (isHexDigit b) (b - 55) 0) < 16
+    decimal : (t : Bool) → isDecimalDigit b ≡ t → cond t (b - 48) (cond (isHexDigit b) (b - 55) 0) < 16
     decimal true e = omega (arith, decimal-range b e)
     decimal false e = letter (isHexDigit b) e refl
 
--- ---- texts of digits, from a place on
+-- ---- a test of every byte, from a place on
 
-pub decimal-here : (s : List ℕ) (i : ℕ) → i < length s → isDecimalDigit (getD s i 0) ≡ true → allDecimal (drop i s) ≡ allDecimal (drop (i + 1) s)
-unfolding allDecimal
-decimal-here s i h e = ap allDecimal (next-byte s i h) ∙ both-true (isDecimalDigit (getD s i 0)) (allDecimal (drop (i + 1) s)) e
+module _ (test : ℕ → Bool) (s : List ℕ) (i : ℕ) where
+  pub passed-here : i < length s → test (getD s i 0) ≡ true → all test (drop i s) ≡ all test (drop (i + 1) s)
+  unfolding all
+  passed-here h e = ap (all test) (next-byte s i h) ∙ both-true (test (getD s i 0)) (all test (drop (i + 1) s)) e
 
-pub not-decimal-here : (s : List ℕ) (i : ℕ) → i < length s → isDecimalDigit (getD s i 0) ≡ false → allDecimal (drop i s) ≡ false
-unfolding allDecimal
-not-decimal-here s i h e = ap allDecimal (next-byte s i h) ∙ both-false (isDecimalDigit (getD s i 0)) (allDecimal (drop (i + 1) s)) e
+  pub failed-here : i < length s → test (getD s i 0) ≡ false → all test (drop i s) ≡ false
+  unfolding all
+  failed-here h e = ap (all test) (next-byte s i h) ∙ both-false (test (getD s i 0)) (all test (drop (i + 1) s)) e
 
-pub hex-here : (s : List ℕ) (i : ℕ) → i < length s → isHexDigit (getD s i 0) ≡ true → allHex (drop i s) ≡ allHex (drop (i + 1) s)
-unfolding allHex
-hex-here s i h e = ap allHex (next-byte s i h) ∙ both-true (isHexDigit (getD s i 0)) (allHex (drop (i + 1) s)) e
-
-pub not-hex-here : (s : List ℕ) (i : ℕ) → i < length s → isHexDigit (getD s i 0) ≡ false → allHex (drop i s) ≡ false
-unfolding allHex
-not-hex-here s i h e = ap allHex (next-byte s i h) ∙ both-false (isHexDigit (getD s i 0)) (allHex (drop (i + 1) s)) e
+  pub all-passed : length s ≤ i → all test (drop i s) ≡ true
+  unfolding all
+  all-passed h = ap (all test) (no-more s i h)
 
 -- ---- numbers, from a place on
 

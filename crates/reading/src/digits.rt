@@ -1,7 +1,7 @@
 // Digits: tests, and the values of digits.
 ghost use mathlib.Core.Path.{_≡_};
 ghost use mathlib.Core.Bool.{false};
-ghost use Rattle.text.specs.Digits.{isDecimalDigit, isHexDigit, digitValue, allDecimal, allHex};
+ghost use Rattle.text.specs.Digits.{isDecimalDigit, isHexDigit, digitValue, all};
 
 // 0 to 9.
 pub(crate) fn is_decimal_digit(b: u8) -> bool
@@ -41,7 +41,7 @@ fn letter_value(b: u8) -> u8
 
 // Whether every byte is a decimal digit, which is true of none.
 pub fn all_decimal(s: &[u8]) -> bool
-    ensures { λ r. ⌜ r ≡ allDecimal (now (s .entry)) ⌝ }
+    ensures { λ r. ⌜ r ≡ all isDecimalDigit (now (s .entry)) ⌝ }
 {
     let mut i: usize = 0;
     while i < s.len() {
@@ -56,7 +56,7 @@ pub fn all_decimal(s: &[u8]) -> bool
 
 // Whether every byte is a hexadecimal digit, which is true of none.
 pub fn all_hex(s: &[u8]) -> bool
-    ensures { λ r. ⌜ r ≡ allHex (now (s .entry)) ⌝ }
+    ensures { λ r. ⌜ r ≡ all isHexDigit (now (s .entry)) ⌝ }
 {
     let mut i: usize = 0;
     while i < s.len() {

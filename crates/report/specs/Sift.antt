@@ -3,9 +3,9 @@
 -- sensor has.
 use Prim.Native.Nat.{ℕ, _+_}
 use mathlib.Core.List.{List, [], _∷_, _++_}
+use mathlib.Core.Bool.{cond}
 use lib.ListN.{length}
 use lib.Dec.{leb}
-use Rattle.text.specs.Choice.{pick}
 use Rattle.text.specs.Quoted.{ascii}
 use Rattle.text.specs.Lines.{lines, columns, lineFeed}
 use Rattle.text.specs.Digits.{bytesOf, hexNumber, decimalNumber, hexText, decimalText}
@@ -30,7 +30,7 @@ answerColumns (m ∷ []) = malformed
 answerColumns (m ∷ c ∷ []) = malformed
 answerColumns (m ∷ c ∷ w ∷ []) = malformed
 answerColumns (m ∷ c ∷ w ∷ l ∷ []) =
-    pick (wellFormed m c w l) (requestColumns (bytesOf m) (bytesOf c) (hexNumber w) (decimalNumber l)) malformed
+    cond (wellFormed m c w l) (requestColumns (bytesOf m) (bytesOf c) (hexNumber w) (decimalNumber l)) malformed
 answerColumns (m ∷ c ∷ w ∷ l ∷ x ∷ xs) = malformed
 
 -- ---- the output
@@ -56,4 +56,4 @@ header = ascii "line answer window bits mark message\n"
 
 -- 'Input above 65,536 bytes gives the header and the line `too long` only.'
 unfoldable pub siftOutput : List ℕ → List ℕ
-siftOutput input = header ++ pick (leb (length input) 65536) (outputLines 1 (lines input)) (ascii "too long\n")
+siftOutput input = header ++ cond (leb (length input) 65536) (outputLines 1 (lines input)) (ascii "too long\n")

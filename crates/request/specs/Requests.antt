@@ -1,23 +1,22 @@
 -- The four columns of a well-formed line (document 01, 'The program sift').
 use Prim.Native.Nat.{ℕ, _%_}
 use mathlib.Core.List.{List}
-use mathlib.Core.Bool.{Bool}
+use mathlib.Core.Bool.{Bool, _&&_}
 use lib.ListN.{length}
 use lib.Dec.{eqb, leb}
-use Rattle.text.specs.Choice.{both}
-use Rattle.text.specs.Digits.{allHex, allDecimal}
+use Rattle.text.specs.Digits.{isDecimalDigit, isHexDigit, all}
 
 -- 'message, confidence (2 to 28 capital hexadecimal digits each, an even number)'
 unfoldable pub isByteString : List ℕ → Bool
-isByteString s = both (both (leb 2 (length s)) (leb (length s) 28)) (both (eqb (length s % 2) 0) (allHex s))
+isByteString s = leb 2 (length s) && leb (length s) 28 && eqb (length s % 2) 0 && all isHexDigit s
 
 -- 'word (6 such digits)'
 unfoldable pub isWord : List ℕ → Bool
-isWord s = both (eqb (length s) 6) (allHex s)
+isWord s = eqb (length s) 6 && all isHexDigit s
 
 -- 'limit (1 or 2 decimal digits)'
 unfoldable pub isLimit : List ℕ → Bool
-isLimit s = both (both (leb 1 (length s)) (leb (length s) 2)) (allDecimal s)
+isLimit s = leb 1 (length s) && leb (length s) 2 && all isDecimalDigit s
 
 unfoldable pub wellFormed : List ℕ → List ℕ → List ℕ → List ℕ → Bool
-wellFormed m c w l = both (both (isByteString m) (isByteString c)) (both (isWord w) (isLimit l))
+wellFormed m c w l = isByteString m && isByteString c && isWord w && isLimit l

@@ -2,16 +2,13 @@
 //
 // `is_well_formed` takes any bytes; its contract gives the result by a definition of specs/Requests.antt.
 ghost use mathlib.Core.Path.{_≡_};
-ghost use Rattle.text.specs.Choice.{both as both·both};
 ghost use Rattle.request.specs.Requests.{wellFormed, isByteString, isWord, isLimit};
 
 // Message, confidence, word and limit, in this order.
 pub fn is_well_formed(m: &[u8], c: &[u8], w: &[u8], l: &[u8]) -> bool
     ensures { λ r. ⌜ r ≡ wellFormed (now (m .entry)) (now (c .entry)) (now (w .entry)) (now (l .entry)) ⌝ }
 {
-    let strings = both(is_byte_string(m), is_byte_string(c));
-    let numbers = both(is_word(w), is_limit(l));
-    both(strings, numbers)
+    is_byte_string(m) & is_byte_string(c) & is_word(w) & is_limit(l)
 }
 
 // 2 to 28 capital hexadecimal digits, an even number.
@@ -19,16 +16,14 @@ fn is_byte_string(s: &[u8]) -> bool
     ensures { λ r. ⌜ r ≡ isByteString (now (s .entry)) ⌝ }
 {
     let size = s.len();
-    let range = both(2 <= size, size <= 28);
-    let digits = both(size % 2 == 0, reading::all_hex(s));
-    both(range, digits)
+    (2 <= size) & (size <= 28) & (size % 2 == 0) & reading::all_hex(s)
 }
 
 // 6 such digits.
 fn is_word(s: &[u8]) -> bool
     ensures { λ r. ⌜ r ≡ isWord (now (s .entry)) ⌝ }
 {
-    both(s.len() == 6, reading::all_hex(s))
+    (s.len() == 6) & reading::all_hex(s)
 }
 
 // 1 or 2 decimal digits.
@@ -36,12 +31,5 @@ fn is_limit(s: &[u8]) -> bool
     ensures { λ r. ⌜ r ≡ isLimit (now (s .entry)) ⌝ }
 {
     let size = s.len();
-    let range = both(1 <= size, size <= 2);
-    both(range, reading::all_decimal(s))
-}
-
-fn both(a: bool, b: bool) -> bool
-    ensures { λ r. ⌜ r ≡ both·both a b ⌝ }
-{
-    if a { b } else { false }
+    (1 <= size) & (size <= 2) & reading::all_decimal(s)
 }

@@ -1,13 +1,12 @@
 -- Reading a list from a place on, and picking by a test.
-use mathlib.Core.Path.{_≡_, refl, sym, ap, _∙_}
-use mathlib.Core.Bool.{Bool, true, false}
+use mathlib.Core.Path.{_≡_, sym, ap, _∙_}
+use mathlib.Core.Bool.{Bool, true, false, cond, _&&_}
 use mathlib.Core.List.{List, [], _∷_}
 use Prim.Native.Nat.{ℕ, _+_, _-_, _<_, _≤_}
 use native.Mathlib.Numerals.{add-one}
 use native.Mathlib.Omega.{arith}
 use lib.ListN.{length, getD, take, drop, length-drop, drop-of-length-le}
 use lib.Seq.{drop-cons, take-all}
-use Rattle.text.specs.Choice.{pick, both}
 
 -- what is left at a place is the byte there and what is left at the next
 pub next-byte : (s : List ℕ) (i : ℕ) → i < length s → drop i s ≡ getD s i 0 ∷ drop (i + 1) s
@@ -20,22 +19,14 @@ no-more s i h = drop-of-length-le s h
 pub part-from : (s : List ℕ) (i : ℕ) → take (length s - i) (drop i s) ≡ drop i s
 part-from s i = take-all (length s - i) (drop i s) (omega (arith, length-drop i s))
 
-pub picked : {A : Type 0} (t : Bool) (a b : A) → t ≡ true → pick t a b ≡ a
-picked t a b e = ap (λ (t : Bool). pick t a b) e
+pub picked : {A : Type 0} (t : Bool) (a b : A) → t ≡ true → cond t a b ≡ a
+picked t a b e = ap (λ (t : Bool). cond t a b) e
 
-pub passed-over : {A : Type 0} (t : Bool) (a b : A) → t ≡ false → pick t a b ≡ b
-passed-over t a b e = ap (λ (t : Bool). pick t a b) e
+pub passed-over : {A : Type 0} (t : Bool) (a b : A) → t ≡ false → cond t a b ≡ b
+passed-over t a b e = ap (λ (t : Bool). cond t a b) e
 
-pub both-true : (a b : Bool) → a ≡ true → both a b ≡ b
-both-true a b e = ap (λ (t : Bool). both t b) e
+pub both-true : (a b : Bool) → a ≡ true → (a && b) ≡ b
+both-true a b e = ap (λ (t : Bool). t && b) e
 
-pub both-false : (a b : Bool) → a ≡ false → both a b ≡ false
-both-false a b e = ap (λ (t : Bool). both t b) e
-
-pub both-left : (a b : Bool) → both a b ≡ true → a ≡ true
-both-left true b e = refl
-both-left false b e = e
-
-pub both-right : (a b : Bool) → both a b ≡ true → b ≡ true
-both-right true b e = e
-both-right false b e = cc
+pub both-false : (a b : Bool) → a ≡ false → (a && b) ≡ false
+both-false a b e = ap (λ (t : Bool). t && b) e

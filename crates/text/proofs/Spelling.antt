@@ -1,6 +1,6 @@
 -- Digits: of a value below 16, of bytes, and of a number.
 use mathlib.Core.Path.{_≡_, refl, sym, ap, _∙_}
-use mathlib.Core.Bool.{Bool, true, false}
+use mathlib.Core.Bool.{Bool, true, false, cond}
 use mathlib.Core.List.{List, [], _∷_, _++_}
 use Prim.Native.Nat.{ℕ, zero, suc, _+_, _*_, _/_, _%_, _^_, _<_, _≤_}
 use native.Mathlib.Nat.{pow-suc}
@@ -8,7 +8,6 @@ use native.Mathlib.Omega.{arith}
 use lib.ListN.{length, getD, drop, length-append}
 use lib.Dec.{ltb}
 use borrow.Author.Tests.{ltb-true, ltb-false, lt-ltb, le-ltb}
-use Rattle.text.specs.Choice.{pick}
 use Rattle.text.specs.Digits.{digitOf, hexText, decimalWithin, decimalText}
 use Rattle.text.proofs.Parts.{picked, passed-over, next-byte, no-more}
 
@@ -49,8 +48,8 @@ decimal-bound (suc k) (suc m) n h j = cases (ltb n 10) refl (decimal-bound k m (
   where
     cases : (t : Bool) → ltb n 10 ≡ t
         → (n / 10 < k → n / 10 < m → decimalWithin k (n / 10) ≡ decimalWithin m (n / 10))
-        → pick t (digitOf n ∷ []) (decimalWithin k (n / 10) ++ digitOf (n % 10) ∷ [])
-        ≡ pick t (digitOf n ∷ []) (decimalWithin m (n / 10) ++ digitOf (n % 10) ∷ [])
+        → cond t (digitOf n ∷ []) (decimalWithin k (n / 10) ++ digitOf (n % 10) ∷ [])
+        ≡ cond t (digitOf n ∷ []) (decimalWithin m (n / 10) ++ digitOf (n % 10) ∷ [])
     cases true e f = refl
     cases false e f =
         ap (λ (l : List ℕ). l ++ digitOf (n % 10) ∷ [])

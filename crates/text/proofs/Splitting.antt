@@ -1,13 +1,12 @@
 -- Lines and columns, one after the other.
 use mathlib.Core.Path.{_≡_, refl, sym, ap, _∙_, subst}
-use mathlib.Core.Bool.{Bool, true, false}
+use mathlib.Core.Bool.{Bool, true, false, cond}
 use mathlib.Core.List.{List, [], _∷_}
 use Prim.Native.Nat.{ℕ, suc, _+_, _-_, _<_, _≤_}
 use native.Mathlib.Numerals.{add-one}
 use native.Mathlib.Omega.{arith}
 use lib.ListN.{length, take, drop}
 use lib.Dec.{eqb}
-use Rattle.text.specs.Choice.{pick}
 use Rattle.text.specs.Lines.{inFirst, lines, columns, before, lineFeed, space}
 use Rattle.text.proofs.Parts.{part-from}
 
@@ -18,7 +17,7 @@ unfolding before
 before-le b [] = omega arith
 before-le b (x ∷ s) = cases (eqb x b) (before-le b s)
   where
-    cases : (t : Bool) → length (before b s) ≤ length s → length (pick t [] (x ∷ before b s)) ≤ suc (length s)
+    cases : (t : Bool) → length (before b s) ≤ length s → length (cond t [] (x ∷ before b s)) ≤ suc (length s)
     cases true h = omega arith
     cases false h = omega arith
 
@@ -27,7 +26,7 @@ unfolding before
 before-take b [] = refl
 before-take b (x ∷ s) = cases (eqb x b) (before-take b s)
   where
-    cases : (t : Bool) → before b s ≡ take (length (before b s)) s → pick t [] (x ∷ before b s) ≡ take (length (pick t [] (x ∷ before b s))) (x ∷ s)
+    cases : (t : Bool) → before b s ≡ take (length (before b s)) s → cond t [] (x ∷ before b s) ≡ take (length (cond t [] (x ∷ before b s))) (x ∷ s)
     cases true e = refl
     cases false e = ap (λ (l : List ℕ). x ∷ l) e
 
@@ -48,8 +47,8 @@ first-line [] h = absurd (omega arith)
 first-line (x ∷ s) h = cases (eqb x lineFeed) (line-more x s (first-line s))
   where
     cases : (t : Bool) → inFirst x (lines s) ≡ (x ∷ before lineFeed s) ∷ lines (drop (suc (length (before lineFeed s))) s)
-        → pick t ([] ∷ lines s) (inFirst x (lines s))
-        ≡ pick t [] (x ∷ before lineFeed s) ∷ lines (drop (length (pick t [] (x ∷ before lineFeed s))) s)
+        → cond t ([] ∷ lines s) (inFirst x (lines s))
+        ≡ cond t [] (x ∷ before lineFeed s) ∷ lines (drop (length (cond t [] (x ∷ before lineFeed s))) s)
     cases true e = refl
     cases false e = e
 
@@ -61,10 +60,10 @@ unfolding columns before
 first-column [] h = absurd (omega arith)
 first-column (x ∷ s) h = cases (eqb x space) h (first-column s)
   where
-    cases : (t : Bool) → length (pick t [] (x ∷ before space s)) < suc (length s)
+    cases : (t : Bool) → length (cond t [] (x ∷ before space s)) < suc (length s)
         → (length (before space s) < length s → columns s ≡ before space s ∷ columns (drop (suc (length (before space s))) s))
-        → pick t ([] ∷ columns s) (inFirst x (columns s))
-        ≡ pick t [] (x ∷ before space s) ∷ columns (drop (length (pick t [] (x ∷ before space s))) s)
+        → cond t ([] ∷ columns s) (inFirst x (columns s))
+        ≡ cond t [] (x ∷ before space s) ∷ columns (drop (length (cond t [] (x ∷ before space s))) s)
     cases true h e = refl
     cases false h e = ap (inFirst x) (e (omega arith))
 
@@ -74,9 +73,9 @@ unfolding columns before
 only-column [] h = refl
 only-column (x ∷ s) h = cases (eqb x space) h (only-column s)
   where
-    cases : (t : Bool) → length (pick t [] (x ∷ before space s)) ≡ suc (length s)
+    cases : (t : Bool) → length (cond t [] (x ∷ before space s)) ≡ suc (length s)
         → (length (before space s) ≡ length s → columns s ≡ s ∷ [])
-        → pick t ([] ∷ columns s) (inFirst x (columns s)) ≡ (x ∷ s) ∷ []
+        → cond t ([] ∷ columns s) (inFirst x (columns s)) ≡ (x ∷ s) ∷ []
     cases true h e = absurd (omega arith)
     cases false h e = ap (inFirst x) (e (omega arith))
 

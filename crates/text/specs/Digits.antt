@@ -1,35 +1,31 @@
 -- Capital hexadecimal digits and decimal digits: the bytes 0 to 9 are 48 to 57, A to F 65 to 70.
 use Prim.Native.Nat.{ℕ, zero, suc, _+_, _-_, _*_, _/_, _%_}
 use mathlib.Core.List.{List, [], _∷_, _++_}
-use mathlib.Core.Bool.{Bool, true}
+use mathlib.Core.Bool.{Bool, true, cond, _&&_, _||_}
 use lib.Dec.{leb, ltb}
-use Rattle.text.specs.Choice.{pick, both, either}
 
 -- ---- digits
 
 unfoldable pub isDecimalDigit : ℕ → Bool
-isDecimalDigit b = both (leb 48 b) (leb b 57)
+isDecimalDigit b = leb 48 b && leb b 57
 
 unfoldable pub isHexDigit : ℕ → Bool
-isHexDigit b = either (isDecimalDigit b) (both (leb 65 b) (leb b 70))
+isHexDigit b = isDecimalDigit b || (leb 65 b && leb b 70)
 
 -- the value of a digit, and 0 for a byte that is none
 unfoldable pub digitValue : ℕ → ℕ
-digitValue b = pick (isDecimalDigit b) (b - 48) (pick (isHexDigit b) (b - 55) 0)
+digitValue b = cond (isDecimalDigit b) (b - 48) (cond (isHexDigit b) (b - 55) 0)
 
 -- the digit of a value below 16
 unfoldable pub digitOf : ℕ → ℕ
-digitOf v = pick (ltb v 10) (48 + v) (55 + v)
+digitOf v = cond (ltb v 10) (48 + v) (55 + v)
 
 -- ---- texts of digits
 
-unfoldable pub allDecimal : List ℕ → Bool
-allDecimal [] = true
-allDecimal (b ∷ bs) = both (isDecimalDigit b) (allDecimal bs)
-
-unfoldable pub allHex : List ℕ → Bool
-allHex [] = true
-allHex (b ∷ bs) = both (isHexDigit b) (allHex bs)
+-- every byte passes a test
+unfoldable pub all : (ℕ → Bool) → List ℕ → Bool
+all test [] = true
+all test (b ∷ bs) = test b && all test bs
 
 -- the number that the digits write in a base, after the number v
 unfoldable pub numberAfter : ℕ → ℕ → List ℕ → ℕ
@@ -60,7 +56,7 @@ wordText w = hexText (w / 65536 % 256 ∷ w / 256 % 256 ∷ w % 256 ∷ [])
 -- the decimal digits of n without leading zeros; `bound` bounds their number
 unfoldable pub decimalWithin : ℕ → ℕ → List ℕ
 decimalWithin zero n = []
-decimalWithin (suc bound) n = pick (ltb n 10) (digitOf n ∷ []) (decimalWithin bound (n / 10) ++ digitOf (n % 10) ∷ [])
+decimalWithin (suc bound) n = cond (ltb n 10) (digitOf n ∷ []) (decimalWithin bound (n / 10) ++ digitOf (n % 10) ∷ [])
 
 -- n has at most n + 1 digits
 unfoldable pub decimalText : ℕ → List ℕ

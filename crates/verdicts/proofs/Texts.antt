@@ -5,8 +5,7 @@ use Prim.Native.Nat.{ℕ, _≤_}
 use native.Mathlib.Omega.{arith}
 use lib.ListN.{length, length-append}
 use lib.Dec.{eqb}
-use mathlib.Core.Bool.{Bool, true, false}
-use Rattle.text.specs.Choice.{pick}
+use mathlib.Core.Bool.{Bool, true, false, cond}
 use Rattle.text.specs.Quoted.{ascii}
 use Rattle.text.specs.Lines.{space}
 use Rattle.text.specs.Digits.{decimalText}
@@ -55,7 +54,7 @@ markWord-length : (m : ℕ) → length (markWord m) ≤ 7
 unfolding markWord
 markWord-length m = cases (eqb m 1)
   where
-    cases : (t : Bool) → length (pick t (ascii "sole") (ascii "several")) ≤ 7
+    cases : (t : Bool) → length (cond t (ascii "sole") (ascii "several")) ≤ 7
     cases true = omega arith
     cases false = omega arith
 

@@ -2,9 +2,9 @@
 -- refusal number; bits changed; mark'.
 use Prim.Native.Nat.{ℕ}
 use mathlib.Core.List.{List, [], _∷_, _++_}
+use mathlib.Core.Bool.{cond}
 use lib.ListN.{drop}
 use lib.Dec.{eqb}
-use Rattle.text.specs.Choice.{pick}
 use Rattle.text.specs.Quoted.{ascii}
 use Rattle.text.specs.Lines.{space}
 use Rattle.text.specs.Digits.{decimalText}
@@ -14,11 +14,11 @@ use Rattle.division.specs.Answers.Outcome.{refusal, answer}
 -- rows 1 to 4 of 'Sensor'
 unfoldable pub answerWord : ℕ → List ℕ
 answerWord row =
-    pick (eqb row 1) (ascii "clean") (pick (eqb row 2) (ascii "dense") (pick (eqb row 3) (ascii "nofit") (ascii "corrected")))
+    cond (eqb row 1) (ascii "clean") (cond (eqb row 2) (ascii "dense") (cond (eqb row 3) (ascii "nofit") (ascii "corrected")))
 
 -- the number of a mark: sole is 1, several 2
 unfoldable pub markWord : ℕ → List ℕ
-markWord mark = pick (eqb mark 1) (ascii "sole") (ascii "several")
+markWord mark = cond (eqb mark 1) (ascii "sole") (ascii "several")
 
 -- '`-` fills what an answer lacks'
 abbrev pub lacking : List ℕ

@@ -1,16 +1,15 @@
 -- `reading::digits::all_hex` meets its contract. The loop's invariant: all bytes before `i` are digits.
-use mathlib.Core.Path.{_≡_, refl, sym, ap, _∙_}
+use mathlib.Core.Path.{_≡_, refl, sym, _∙_}
 use Prim.Native.Nat.{_-_, _≤_}
 use native.Mathlib.Omega.{arith}
 use lib.ListN.{length, drop}
-use Rattle.text.specs.Digits.{allHex}
-use Rattle.text.proofs.Parts.{no-more}
-use Rattle.reading.proofs.Values.{hex-here, not-hex-here}
+use Rattle.text.specs.Digits.{isHexDigit, all}
+use Rattle.reading.proofs.Values.{passed-here, failed-here, all-passed}
 use Rattle.reading.proofs.digits.all_hex.Statement.{statement}
 use Rattle.reading.proofs.digits.all_hex.Tie as tie
 
 abbrev Inv-loop : tie.InvT-loop
-Inv-loop s i₀ i = (i ≤ length s) × (allHex s ≡ allHex (drop i s))
+Inv-loop s i₀ i = (i ≤ length s) × (all isHexDigit s ≡ all isHexDigit (drop i s))
 
 abbrev μ-loop : tie.MeasureT-loop
 μ-loop s i₀ i = length s - i
@@ -36,7 +35,7 @@ loop-again c =
     let i = c .before .before .before .before .loop .i in (
       omega arith,
       c .before .before .before .before .loop .inv .1
-          ∙ hex-here s i (c .before .before .before .loop-test .taken) (sym (c .before .is-hex-digit .ensures) ∙ c .if1 .taken),
+          ∙ passed-here isHexDigit s i (c .before .before .before .loop-test .taken) (sym (c .before .is-hex-digit .ensures) ∙ c .if1 .taken),
     )
 
 returns : tie.Need-returns Inv-loop μ-loop
@@ -44,13 +43,12 @@ returns c =
     let s = c .before .before .before .before .before .before .args .s .now in
     let i = c .before .before .before .before .loop .i in
     sym (c .before .before .before .before .loop .inv .1
-    ∙ not-hex-here s i (c .before .before .before .loop-test .taken) (sym (c .before .is-hex-digit .ensures) ∙ c .if1 .left))
+    ∙ failed-here isHexDigit s i (c .before .before .before .loop-test .taken) (sym (c .before .is-hex-digit .ensures) ∙ c .if1 .left))
 
 returns-2 : tie.Need-returns-2 Inv-loop μ-loop
-unfolding allHex
 returns-2 c =
     let s = c .before .before .before .args .s .now in
-    sym (c .before .loop .inv .1 ∙ ap allHex (no-more s (c .before .loop .i) (c .loop-test .left)))
+    sym (c .before .loop .inv .1 ∙ all-passed isHexDigit s (c .before .loop .i) (c .loop-test .left))
 
 pub all-hex-spec : {M : Type 1} → statement M
 all-hex-spec =

@@ -1,7 +1,7 @@
 -- `text::output::put_word` meets its contract.
 use mathlib.Core.Path.{_≡_}
 use mathlib.Core.List.{List, [], _∷_, _++_}
-use Prim.Native.Nat.{ℕ, _+_, _-_, _/_, _%_}
+use Prim.Native.Nat.{ℕ, _/_, _%_}
 use Rattle.text.specs.Output.{Place, append}
 use Rattle.text.specs.Digits.{digitOf, hexText, wordText}
 use Rattle.text.proofs.Appending.{after}
