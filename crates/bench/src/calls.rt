@@ -1,11 +1,11 @@
 // The calls by their names.
-use crate::columns::after;
-use crate::columns::end_of;
 use crate::print;
+use reading::after;
+use reading::find;
 
 // Makes the call and prints what it answers.
 pub(crate) fn answer(name: &[u8], arguments: &[u8]) {
-    let end = end_of(arguments, b' ');
+    let end = find(arguments, b' ');
     let first = &arguments[0..end];
     let second = after(arguments, end);
     if check::same(name, b"register") {

@@ -21,11 +21,10 @@ ghost use Prim.Native.Nat.{_+_, _≤_};
 ghost use lib.ListN.{length};
 
 mod calls;
-mod columns;
 mod print;
 
-use columns::after;
-use columns::end_of;
+use reading::after;
+use reading::find;
 
 fn main() {
     let mut input = io::large_buffer();
@@ -44,15 +43,15 @@ fn show_all(vectors: &[u8]) {
 fn show_first(vectors: &[u8]) -> usize
     ensures { λ r. ⌜ (1 ≤ r) × (r ≤ length (now (vectors .entry)) + 1) ⌝ }
 {
-    let end = end_of(vectors, b'\n');
+    let end = find(vectors, b'\n');
     show(&vectors[0..end]);
     end + 1
 }
 
 fn show(vector: &[u8]) {
     io::write_all(1, vector);
-    let call = after(vector, end_of(vector, b' '));
-    let end = end_of(call, b' ');
+    let call = after(vector, find(vector, b' '));
+    let end = find(call, b' ');
     calls::answer(&call[0..end], after(call, end));
     io::write_all(1, b"\n");
 }

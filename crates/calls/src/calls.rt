@@ -5,14 +5,14 @@ use crate::answers::put;
 use crate::arguments::is_bit;
 use crate::arguments::is_bytes;
 use crate::arguments::is_word;
-use crate::columns::after;
-use crate::columns::end_of;
 use division::Word;
+use reading::after;
+use reading::find;
 
 // Makes the call of a line and appends the columns of its answer to what is taken of the output buffer. The message is
 // what the first argument writes in hexadecimal digits, at most 32 bytes.
 pub(crate) fn answer(line: &[u8], out: &mut [u8], taken: usize) -> usize {
-    let end = end_of(line, b' ');
+    let end = find(line, b' ');
     let arguments = after(line, end);
     let mut message = [0u8; 32];
     let n = reading::hex_bytes(first_of(arguments), &mut message);
@@ -24,7 +24,7 @@ pub(crate) fn answer(line: &[u8], out: &mut [u8], taken: usize) -> usize {
 }
 
 fn first_of(arguments: &[u8]) -> &[u8] {
-    let end = end_of(arguments, b' ');
+    let end = find(arguments, b' ');
     &arguments[0..end]
 }
 
@@ -35,7 +35,7 @@ fn answer_with(name: &[u8], arguments: &[u8], m: &mut [u8], out: &mut [u8], take
 
 // A call has one argument or two: no argument has a space, so a line with one space more is malformed.
 fn make(name: &[u8], arguments: &[u8], m: &mut [u8]) -> Answer {
-    let middle = end_of(arguments, b' ');
+    let middle = find(arguments, b' ');
     if middle < arguments.len() {
         make_of_two(name, &arguments[0..middle], after(arguments, middle), m)
     } else {

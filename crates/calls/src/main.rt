@@ -13,9 +13,8 @@ ghost use lib.ListN.{length};
 mod answers;
 mod arguments;
 mod calls;
-mod columns;
 
-use columns::end_of;
+use reading::find;
 
 fn main() {
     let mut input = input_buffer();
@@ -60,7 +59,7 @@ struct Step {
 fn answer_first(input: &[u8], number: u32, out: &mut [u8], taken: usize) -> Step
     ensures { λ r. ⌜ (1 ≤ r .passed) × (r .passed ≤ length (now (input .entry)) + 1) ⌝ }
 {
-    let end = end_of(input, b'\n');
+    let end = find(input, b'\n');
     let start = flushed(out, taken);
     let next = text::put_decimal(out, start, number);
     let answered = calls::answer(&input[0..end], out, next);

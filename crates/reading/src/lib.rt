@@ -10,6 +10,7 @@ mod numbers;
 pub use bytes::hex_bytes;
 pub use digits::all_decimal;
 pub use digits::all_hex;
+pub use lines::after;
 pub use lines::find;
 pub use numbers::decimal_number;
 pub use numbers::hex_number;

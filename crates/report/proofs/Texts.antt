@@ -90,7 +90,7 @@ too-few-3 a b c = refl
 -- ---- one column more: F is the text that the columns found so far make with those still to be found, q the place after it
 
 module _ (F : List (List ℕ) → List ℕ) (start q : Place) (s : List ℕ) (k : ℕ) (e : k ≡ length (before space s)) where
-  pub column-found : (rest : List ℕ) → k < length s → rest ≡ take (length s - (k + 1)) (drop (k + 1) s)
+  pub column-found : (rest : List ℕ) → k < length s → rest ≡ drop (k + 1) s
       → q ≡ append start (F (take k s ∷ columns rest)) → length (F (take k s ∷ columns rest)) ≤ 19 + 24 * length s
       → (q ≡ append start (F (columns s))) × (length (F (columns s)) ≤ 19 + 24 * length s)
   column-found rest h r p b =
@@ -109,8 +109,8 @@ module _ (F : List (List ℕ) → List ℕ) (start q : Place) (s : List ℕ) (k 
 pub front-short : (s : List ℕ) (k : ℕ) → k < length s → length (take k s) ≤ length s
 front-short s k h = omega (arith, length-take-le k s (omega arith))
 
-pub rest-short : (s rest : List ℕ) (a : ℕ) → rest ≡ take (length s - a) (drop a s) → length rest ≤ length s
-rest-short s rest a e = omega (arith, ap length e, ap length (part-from s a), length-drop a s)
+pub rest-short : (s rest : List ℕ) (a : ℕ) → rest ≡ drop a s → length rest ≤ length s
+rest-short s rest a e = omega (arith, ap length e, length-drop a s)
 
 -- ---- output lines
 

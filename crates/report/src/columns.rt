@@ -1,4 +1,5 @@
-// The columns of an input line, one after the other, up to the four of a well-formed line.
+// The columns of an input line, one after the other, up to the four of a well-formed line. They are 'parted by one space':
+// the next column starts right behind it.
 ghost use Prim.Native.Nat.{_+_, _-_, _*_, _≤_, _<_};
 ghost use mathlib.Core.Path.{_≡_};
 ghost use mathlib.Core.List.{[], _∷_};
@@ -14,7 +15,7 @@ pub(crate) fn write_answer(out: &mut [u8], taken: usize, line: &[u8]) -> usize
 {
     let end = reading::find(line, 32);
     if end < line.len() {
-        after_message(out, taken, &line[..end], column_after(line, end))
+        after_message(out, taken, &line[..end], reading::after(line, end))
     } else {
         write_malformed(out, taken)
     }
@@ -26,7 +27,7 @@ fn after_message(out: &mut [u8], taken: usize, m: &[u8], others: &[u8]) -> usize
 {
     let end = reading::find(others, 32);
     if end < others.len() {
-        after_confidence(out, taken, m, &others[..end], column_after(others, end))
+        after_confidence(out, taken, m, &others[..end], reading::after(others, end))
     } else {
         write_malformed(out, taken)
     }
@@ -38,7 +39,14 @@ fn after_confidence(out: &mut [u8], taken: usize, m: &[u8], c: &[u8], others: &[
 {
     let end = reading::find(others, 32);
     if end < others.len() {
-        after_word(out, taken, m, c, &others[..end], column_after(others, end))
+        after_word(
+            out,
+            taken,
+            m,
+            c,
+            &others[..end],
+            reading::after(others, end),
+        )
     } else {
         write_malformed(out, taken)
     }
@@ -53,15 +61,6 @@ fn after_word(out: &mut [u8], taken: usize, m: &[u8], c: &[u8], w: &[u8], l: &[u
     } else {
         write_malformed(out, taken)
     }
-}
-
-// 'parted by one space': the next column starts right after it.
-fn column_after(s: &[u8], end: usize) -> &[u8]
-    requires { ⌜ end < length (now s) ⌝ }
-    ensures { λ r. ⌜ now r ≡ take (length (now (s .entry)) - (end + 1)) (drop (end + 1) (now (s .entry))) ⌝ }
-{
-    let start = end + 1;
-    &s[start..]
 }
 
 fn write_malformed(out: &mut [u8], taken: usize) -> usize

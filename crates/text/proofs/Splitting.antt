@@ -8,7 +8,6 @@ use native.Mathlib.Omega.{arith}
 use lib.ListN.{length, take, drop}
 use lib.Dec.{eqb}
 use Rattle.text.specs.Lines.{inFirst, lines, columns, before, lineFeed, space}
-use Rattle.text.proofs.Parts.{part-from}
 
 -- ---- what stands in front of a byte is a part of the list
 
@@ -81,12 +80,12 @@ only-column (x ∷ s) h = cases (eqb x space) h (only-column s)
 
 -- the same for a place k that a search found: the column in front of it, and what the code reads after it
 pub split-column : (s : List ℕ) (k : ℕ) → k ≡ length (before space s) → k < length s
-    → columns s ≡ take k s ∷ columns (take (length s - (k + 1)) (drop (k + 1) s))
+    → columns s ≡ take k s ∷ columns (drop (k + 1) s)
 split-column s k e h =
     first-column s (subst (λ (n : ℕ). n < length s) e h)
     ∙ ap (λ (l : List ℕ). l ∷ columns (drop (suc (length (before space s))) s)) (before-take space s)
     ∙ ap (λ (n : ℕ). take n s ∷ columns (drop (suc n) s)) (sym e)
-    ∙ ap (λ (l : List ℕ). take k s ∷ columns l) (ap (λ (n : ℕ). drop n s) (sym (add-one k)) ∙ sym (part-from s (k + 1)))
+    ∙ ap (λ (l : List ℕ). take k s ∷ columns l) (ap (λ (n : ℕ). drop n s) (sym (add-one k)))
 
 -- a search that found no space
 pub whole-column : (s : List ℕ) (k : ℕ) → k ≡ length (before space s) → length s ≤ k → columns s ≡ s ∷ []
