@@ -1,6 +1,7 @@
 // What a well-formed line is: its four columns, each tested by its length and its digits (document 01, 'The program sift').
 //
 // `is_well_formed` takes any bytes; its contract gives the result by a definition of specs/Requests.antt.
+// `&` makes every test, where `&&` would end at the first that fails: one result is to be proved, not one for each end.
 ghost use mathlib.Core.Path.{_≡_};
 ghost use Rattle.request.specs.Requests.{wellFormed, isByteString, isWord, isLimit};
 
