@@ -36,7 +36,7 @@ const GENERATOR: u32 = 0x1FFF409;
 fn is_field_length(n: usize) -> bool
     ensures { λ r. ⌜ r ≡ isFieldLength n ⌝ }
 {
-    n == 4 || n == 11
+    (n == 4) | (n == 11)
 }
 
 pub(crate) fn wide(b: u8) -> u32

@@ -1,5 +1,5 @@
 -- The tests of lengths and words: what it means that one is passed.
-use mathlib.Core.Path.{_≡_, refl, sym, ap, _∙_}
+use mathlib.Core.Path.{_≡_, refl, ap}
 use mathlib.Core.Bool.{Bool, true, false, _||_}
 use mathlib.Core.Logic.{_⊎_, inl, inr}
 use Prim.Native.Nat.{ℕ, _+_, _<_, _≤_, _^_}
@@ -7,12 +7,6 @@ use native.Mathlib.Omega.{arith}
 use lib.Dec.{eqb}
 use borrow.Author.Tests.{leb-true, eqb-true, le-leb}
 use Rattle.message.specs.Message.{isMessageLength, isFieldLength, isWord}
-
-pub either-left : (a b : Bool) → a ≡ true → a ≡ (a || b)
-either-left a b e = e ∙ ap (λ (t : Bool). t || b) (sym e)
-
-pub either-right : (a b : Bool) → a ≡ false → b ≡ (a || b)
-either-right a b e = ap (λ (t : Bool). t || b) (sym e)
 
 either-cases : (a b : Bool) → (a || b) ≡ true → (a ≡ true) ⊎ (b ≡ true)
 either-cases true b e = inl refl

@@ -9,7 +9,7 @@ ghost use Rattle.message.specs.Message.{isMessageLength, isWord, firstBi
 pub fn is_message_length(n: usize) -> bool
     ensures { λ r. ⌜ r ≡ isMessageLength n ⌝ }
 {
-    n == 7 || n == 14
+    (n == 7) | (n == 14)
 }
 
 // A word has 24 bits.

@@ -7,7 +7,7 @@ use native.Mathlib.Nat.{pow-suc, mod-mod, mod-eq-of-lt, div-add-mod, add-mul, mu
 use native.Mathlib.Omega.{arith}
 use lib.ListN.{length, getD, drop}
 use lib.Dec.{leb}
-use borrow.Author.Tests.{leb-true, le-leb, lt-leb}
+use borrow.Author.Tests.{leb-true}
 use Rattle.text.specs.Digits.{hexNumber, decimalNumber, isDecimalDigit, isHexDigit, digitValue, all, numberAfter, bytesOf}
 use Rattle.text.proofs.Parts.{picked, passed-over, both-true, both-false, next-byte, no-more}
 
@@ -25,29 +25,6 @@ unfolding isHexDigit
 letter-range b n e =
     let both = and-eq-true-iff (leb 65 b) (leb b 70) .0 (ap (λ (t : Bool). t || (leb 65 b && leb b 70)) (sym n) ∙ e) in
     (leb-true 65 b (both .0), leb-true b 70 (both .1))
-
--- the tests of the code, one after the other
-pub decimal-test : (b : ℕ) → 48 ≤ b → leb b 57 ≡ isDecimalDigit b
-unfolding isDecimalDigit
-decimal-test b h = sym (both-true (leb 48 b) (leb b 57) (le-leb 48 b h))
-
-pub decimal-below : (b : ℕ) → b < 48 → leb 48 b ≡ isDecimalDigit b
-unfolding isDecimalDigit
-decimal-below b h = lt-leb 48 b h ∙ sym (both-false (leb 48 b) (leb b 57) (lt-leb 48 b h))
-
-pub hex-decimal : (b : ℕ) → isDecimalDigit b ≡ true → true ≡ isHexDigit b
-unfolding isHexDigit
-hex-decimal b e = ap (λ (t : Bool). t || (leb 65 b && leb b 70)) (sym e)
-
-hex-other : (b : ℕ) → isDecimalDigit b ≡ false → (leb 65 b && leb b 70) ≡ isHexDigit b
-unfolding isHexDigit
-hex-other b e = ap (λ (t : Bool). t || (leb 65 b && leb b 70)) (sym e)
-
-pub hex-test : (b : ℕ) → isDecimalDigit b ≡ false → 65 ≤ b → leb b 70 ≡ isHexDigit b
-hex-test b e h = sym (both-true (leb 65 b) (leb b 70) (le-leb 65 b h)) ∙ hex-other b e
-
-pub hex-below : (b : ℕ) → isDecimalDigit b ≡ false → b < 65 → leb 65 b ≡ isHexDigit b
-hex-below b e h = lt-leb 65 b h ∙ sym (both-false (leb 65 b) (leb b 70) (lt-leb 65 b h)) ∙ hex-other b e
 
 pub value-decimal : (b : ℕ) → isDecimalDigit b ≡ true → b - 48 ≡ digitValue b
 unfolding digitValue

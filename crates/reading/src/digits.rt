@@ -7,18 +7,14 @@ ghost use Rattle.text.specs.Digits.{isDecimalDigit, isHexDigit, digitValue, all
 pub(crate) fn is_decimal_digit(b: u8) -> bool
     ensures { λ r. ⌜ r ≡ isDecimalDigit b ⌝ }
 {
-    48 <= b && b <= 57
+    (48 <= b) & (b <= 57)
 }
 
 // Capital letters alone.
 pub(crate) fn is_hex_digit(b: u8) -> bool
     ensures { λ r. ⌜ r ≡ isHexDigit b ⌝ }
 {
-    if is_decimal_digit(b) {
-        true
-    } else {
-        65 <= b && b <= 70
-    }
+    is_decimal_digit(b) | ((65 <= b) & (b <= 70))
 }
 
 // The value of a digit, and 0 for a byte that is none.

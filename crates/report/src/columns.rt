@@ -3,7 +3,7 @@
 ghost use Prim.Native.Nat.{_+_, _-_, _*_, _≤_, _<_};
 ghost use mathlib.Core.Path.{_≡_};
 ghost use mathlib.Core.List.{[], _∷_};
-ghost use lib.ListN.{length, take, drop};
+ghost use lib.ListN.{length};
 ghost use Rattle.text.specs.Lines.{columns};
 ghost use Rattle.text.specs.Output.{append};
 ghost use Rattle.report.specs.Sift.{answerText};

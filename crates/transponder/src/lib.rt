@@ -68,7 +68,7 @@ fn judge(own: u32, address: u32, format: u32) -> Reception
 fn is_reserved(own: u32) -> bool
     ensures { λ r. ⌜ r ≡ isReserved own ⌝ }
 {
-    own == 0 || own == 0xFFFFFF
+    (own == 0) | (own == 0xFFFFFF)
 }
 
 // The address read from a message of 7 or 14 bytes.

@@ -1,13 +1,12 @@
--- `reading::digits::is_decimal_digit` meets its contract.
-use Rattle.reading.proofs.Values.{decimal-test, decimal-below}
+-- `reading::digits::is_decimal_digit` meets its contract: the tests are the definition's own.
+use mathlib.Core.Path.{refl}
+use Rattle.text.specs.Digits.{isDecimalDigit}
 use Rattle.reading.proofs.digits.is_decimal_digit.Statement.{statement}
 use Rattle.reading.proofs.digits.is_decimal_digit.Tie as tie
 
 returns : tie.Need-returns
-returns c = decimal-test (c .before .args .b) (c .if1 .taken)
-
-returns-2 : tie.Need-returns-2
-returns-2 c = decimal-below (c .before .args .b) (c .if1 .left)
+unfolding isDecimalDigit
+returns c = refl
 
 pub is-decimal-digit-spec : {M : Type 1} → statement M
-is-decimal-digit-spec = tie.close (tie.spec returns returns-2)
+is-decimal-digit-spec = tie.close (tie.spec returns)

@@ -1,6 +1,8 @@
--- `reading::digits::is_hex_digit` meets its contract.
-use mathlib.Core.Path.{sym, _∙_}
-use Rattle.reading.proofs.Values.{hex-decimal, hex-test, hex-below}
+-- `reading::digits::is_hex_digit` meets its contract: the tests are the definition's own.
+use mathlib.Core.Path.{ap}
+use mathlib.Core.Bool.{Bool, _&&_, _||_}
+use lib.Dec.{leb}
+use Rattle.text.specs.Digits.{isHexDigit}
 use Rattle.reading.proofs.digits.is_hex_digit.Statement.{statement}
 use Rattle.reading.proofs.digits.is_hex_digit.Tie as tie
 
@@ -8,15 +10,10 @@ is-decimal-digit-requires : tie.Need-is-decimal-digit-requires
 is-decimal-digit-requires c κs = tt
 
 returns : tie.Need-returns
-returns c = hex-decimal (c .before .before .args .b) (sym (c .before .is-decimal-digit .ensures) ∙ c .if1 .taken)
-
-returns-2 : tie.Need-returns-2
-returns-2 c =
-    hex-test (c .before .before .before .args .b) (sym (c .before .before .is-decimal-digit .ensures) ∙ c .before .if1 .left) (c .if2 .taken)
-
-returns-3 : tie.Need-returns-3
-returns-3 c =
-    hex-below (c .before .before .before .args .b) (sym (c .before .before .is-decimal-digit .ensures) ∙ c .before .if1 .left) (c .if2 .left)
+unfolding isHexDigit
+returns c =
+    let b = c .before .args .b in
+    ap (λ (t : Bool). t || (leb 65 b && leb b 70)) (c .is-decimal-digit .ensures)
 
 pub is-hex-digit-spec : {M : Type 1} → statement M
-is-hex-digit-spec = tie.close (tie.spec is-decimal-digit-requires returns returns-2 returns-3)
+is-hex-digit-spec = tie.close (tie.spec is-decimal-digit-requires returns)
