@@ -52,7 +52,7 @@ fn make_of_one(name: &[u8], argument: &[u8], m: &[u8]) -> Answer {
             return Answer::Divided(division::parity_by_bytes(m));
         }
         if check::same(name, b"rows") {
-            return Answer::Divided(division::parity_by_rows(m));
+            return Answer::Divided(rows::parity_by_rows(m));
         }
     }
     make_of_message_or_word(name, argument, m)

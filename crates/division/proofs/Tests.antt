@@ -47,6 +47,10 @@ pub parity-value : (f : List ℕ) → isFieldLength (length f) ≡ true → pari
 unfolding parityAnswer
 parity-value f e = accepted (isFieldLength (length f)) 1 (answer 0 (parity (number f) ∷ [])) e
 
+pub parity-refused : (f : List ℕ) → isFieldLength (length f) ≡ false → parityAnswer f ≡ refusal 1
+unfolding parityAnswer
+parity-refused f e = ap (λ (t : Bool). unless t 1 (answer 0 (parity (number f) ∷ []))) e
+
 pub remainder-value : (m : List ℕ) → isMessageLength (length m) ≡ true → remainderAnswer m ≡ answer 0 (remainder (number m) ∷ [])
 unfolding remainderAnswer
 remainder-value m e = accepted (isMessageLength (length m)) 1 (answer 0 (remainder (number m) ∷ [])) e

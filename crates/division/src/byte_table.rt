@@ -6,8 +6,8 @@ ghost use Rattle.message.specs.Message.{number};
 ghost use Rattle.division.specs.Tables.{IsByteTable};
 ghost use Rattle.division.specs.Answers.{said, parityAnswer};
 use crate::Word;
-use crate::is_field_length;
 use crate::wide;
+use message::is_field_length;
 
 const TABLE: [u32; 256] = [
     0x000000,

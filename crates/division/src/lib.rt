@@ -1,18 +1,16 @@
-// Division by the Mode S generator: the register, R of a field in three ways, the remainder of a message, the address
-// read from it, the address overlay, and the register run backwards.
+// Division by the Mode S generator: the register, R of a field by it and by a table of bytes, the remainder of a message,
+// the address read from it, the address overlay, and the register run backwards.
 //
 // Every public function takes any input and answers a Word: the value, or the number of the refusal. Its contract says
-// which, by a definition of specs/Answers.antt. Private workers take the tables as lent arrays, so that a call copies a
-// table at most once.
+// which, by a definition of specs/Answers.antt. Private workers take the table as a lent array, so that a call copies
+// it at most once.
 ghost use Prim.Native.Nat.{_<_};
 ghost use mathlib.Core.Path.{_≡_};
-ghost use Rattle.message.specs.Message.{isFieldLength};
 
 mod byte_table;
 mod overlay;
 mod register;
 mod remainder;
-mod row_table;
 
 pub use byte_table::parity_by_bytes;
 pub use overlay::uplink_overlay;
@@ -21,7 +19,6 @@ pub use register::register_back;
 pub use register::register_step;
 pub use remainder::address_read;
 pub use remainder::message_remainder;
-pub use row_table::parity_by_rows;
 
 // A 24-bit word, or the number of the refusal.
 pub enum Word {
@@ -31,13 +28,6 @@ pub enum Word {
 
 // The generator, x^24 on top.
 const GENERATOR: u32 = 0x1FFF409;
-
-// A field has 4 or 11 bytes.
-fn is_field_length(n: usize) -> bool
-    ensures { λ r. ⌜ r ≡ isFieldLength n ⌝ }
-{
-    (n == 4) | (n == 11)
-}
 
 pub(crate) fn wide(b: u8) -> u32
     ensures { λ r. ⌜ r ≡ b ⌝ }

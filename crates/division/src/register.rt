@@ -6,8 +6,8 @@ ghost use Rattle.message.specs.Message.{number, bitOf};
 ghost use Rattle.division.specs.Answers.{said, registerAnswer, parityAnswer, backwardAnswer};
 use crate::GENERATOR;
 use crate::Word;
-use crate::is_field_length;
 use crate::wide;
+use message::is_field_length;
 use message::is_word;
 
 // The register after one bit more: the remainder of x·r + bit·x^24.

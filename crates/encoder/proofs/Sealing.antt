@@ -1,4 +1,4 @@
--- How a seal's definitions split: the outcome by its three tests, the buffer by the outcome, and the parity field's bytes.
+-- How a seal's definitions split: the outcome by its three tests, and the parity field's bytes.
 use mathlib.Core.Path.{_≡_, refl, sym, ap, ap₂, _∙_}
 use mathlib.Core.Bool.{true, false}
 use mathlib.Core.List.{List, [], _∷_, _++_, append-nil}

@@ -3,13 +3,20 @@
 // Every function takes any input; its contract names a definition of specs/Message.antt.
 ghost use mathlib.Core.Path.{_≡_};
 ghost use lib.ListN.{getD};
-ghost use Rattle.message.specs.Message.{isMessageLength, isWord, firstBitAgrees, formatNumber};
+ghost use Rattle.message.specs.Message.{isMessageLength, isFieldLength, isWord, firstBitAgrees, formatNumber};
 
 // A message has 7 or 14 bytes.
 pub fn is_message_length(n: usize) -> bool
     ensures { λ r. ⌜ r ≡ isMessageLength n ⌝ }
 {
     (n == 7) | (n == 14)
+}
+
+// A field, a message without its parity field, has 4 or 11.
+pub fn is_field_length(n: usize) -> bool
+    ensures { λ r. ⌜ r ≡ isFieldLength n ⌝ }
+{
+    (n == 4) | (n == 11)
 }
 
 // A word has 24 bits.

@@ -1,4 +1,8 @@
 -- `windows::inverting::store_four` meets its contract.
+use mathlib.Core.Path.{ap, _∙_}
+use mathlib.Core.List.{List}
+use Prim.Native.Nat.{ℕ, _/_, _%_}
+use lib.ListN.{set}
 use borrow.Author.Needs.{needs}
 use Rattle.windows.proofs.inverting.store_four.Statement.{statement}
 use Rattle.windows.proofs.inverting.store_four.Tie as tie
@@ -31,7 +35,13 @@ same-length : tie.Need-same-length
 same-length c = search needs
 
 returns : tie.Need-returns
-returns c = cc
+returns c =
+    let n : ℕ = c .before .before .before .before .before .before .before .before .before .before .before .before .before .before .before .before .before .args .sum in
+    c .before .before .put-at4 .ensures
+    ∙ ap (λ (l : List ℕ). set l 3 (n % 256))
+    (c .before .before .before .before .before .before .put-at3 .ensures
+    ∙ ap (λ (l : List ℕ). set l 2 (n / 256 % 256))
+    (c .before .before .before .before .before .before .before .before .before .before .put-at2 .ensures ∙ ap (λ (l : List ℕ). set l 1 (n / 65536 % 256)) (c .before .before .before .before .before .before .before .before .before .before .before .before .before .before .put-at .ensures)))
 
 pub store-four-spec : {M : Type 1} → statement M
 store-four-spec =

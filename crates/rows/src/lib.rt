@@ -1,14 +1,14 @@
-// R by the table of 88 remainders, one for each bit of a long field (ATC-40, Table II).
+// R by the table of 88 remainders, one for each bit of a long field (ATC-40, Table II): the rows are added where the field
+// has ones.
 ghost use Prim.Native.Nat.{_<_, _≤_, _-_, _*_, _^_};
 ghost use mathlib.Core.Path.{_≡_};
 ghost use lib.ListN.{length};
 ghost use Rattle.division.specs.Division.{parity};
 ghost use Rattle.message.specs.Message.{number};
-ghost use Rattle.division.specs.Tables.{IsRowTable};
+ghost use Rattle.rows.specs.Rows.{IsRowTable};
 ghost use Rattle.division.specs.Answers.{said, parityAnswer};
-use crate::Word;
-use crate::is_field_length;
-use crate::wide;
+use division::Word;
+use message::is_field_length;
 
 // The row for bit 73 is the one of ATC-40's errata sheet.
 const ROWS: [u32; 88] = [
@@ -158,4 +158,11 @@ pub fn parity_by_rows(field: &[u8]) -> Word
     } else {
         Word::Refused(1)
     }
+}
+
+fn wide(b: u8) -> u32
+    ensures { λ r. ⌜ r ≡ b ⌝ }
+    ensures { λ r. ⌜ r < 256 ⌝ }
+{
+    b as u32
 }

@@ -1,12 +1,12 @@
--- `division::row_table::field_parity_by_rows` meets its contract: the table's rule is one computed test over its 88 rows.
+-- `rows::field_parity_by_rows` meets its contract: the table's rule is one computed test over its 88 rows.
 use Prim.Native.Nat.{ℕ, _-_, _^_}
 use borrow.Author.Needs.{needs}
 use mathlib.Core.Path.{_∙_}
 use Rattle.division.specs.Polynomial.{downwards}
-use Rattle.division.specs.Tables.{IsRowTable}
+use Rattle.rows.specs.Rows.{IsRowTable}
 use Rattle.division.proofs.Table.{tabulate, tabulated, reduceBy, quickDown, quick, quick-is}
-use Rattle.division.proofs.row_table.field_parity_by_rows.Statement.{statement}
-use Rattle.division.proofs.row_table.field_parity_by_rows.Tie as tie
+use Rattle.rows.proofs.field_parity_by_rows.Statement.{statement}
+use Rattle.rows.proofs.field_parity_by_rows.Tie as tie
 
 by-rows-requires : tie.Need-by-rows-requires
 unfolding IsRowTable tabulate quick quickDown reduceBy downwards

@@ -1,16 +1,16 @@
--- `division::row_table::rows_of_byte` meets its contract. The loop's invariant: the sum is R of the bits above `left`,
+-- `rows::rows_of_byte` meets its contract. The loop's invariant: the sum is R of the bits above `left`,
 -- with zeros in the place of the rest.
 use mathlib.Core.Path.{_≡_, sym, ap, _∙_, subst}
 use Prim.Native.Nat.{ℕ, _+_, _-_, _*_, _/_, _^_, _≤_, _<_}
 use native.Mathlib.Omega.{arith}
 use native.Mathlib.Nat.{mod-lt, zero-lt-suc}
 use borrow.Author.Needs.{needs}
 use Rattle.division.specs.Division.{parity, remainder}
-use Rattle.division.specs.Tables.{IsRowTable}
-use Rattle.division.proofs.Dividing.{remainder-lt}
-use Rattle.division.proofs.Fields.{bits-none, bits-more, bits-all, bit-times-lt}
-use Rattle.division.proofs.row_table.rows_of_byte.Statement.{statement}
-use Rattle.division.proofs.row_table.rows_of_byte.Tie as tie
+use Rattle.rows.specs.Rows.{IsRowTable}
+use Rattle.division.proofs.Laws.{remainder-lt}
+use Rattle.division.proofs.Laws.{bits-none, bits-more, bits-all, bit-times-lt}
+use Rattle.rows.proofs.rows_of_byte.Statement.{statement}
+use Rattle.rows.proofs.rows_of_byte.Tie as tie
 
 abbrev Inv-loop : tie.InvT-loop
 Inv-loop rows at byte bits sum₀ left₀ row₀ sum left row =

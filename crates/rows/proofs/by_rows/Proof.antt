@@ -1,14 +1,14 @@
--- `division::row_table::by_rows` meets its contract. The loop's invariant: the sum is R of the bytes passed, with zeros
+-- `rows::by_rows` meets its contract. The loop's invariant: the sum is R of the bytes passed, with zeros
 -- in the place of the rest.
 use mathlib.Core.Path.{_≡_, _∙_, ap}
 use Prim.Native.Nat.{ℕ, _+_, _-_, _*_, _≤_, _^_}
 use native.Mathlib.Omega.{arith}
 use lib.ListN.{length, getD, take}
 use Rattle.division.specs.Division.{parity}
 use Rattle.message.specs.Message.{number}
-use Rattle.division.proofs.Fields.{rows-none, rows-more, rows-all}
-use Rattle.division.proofs.row_table.by_rows.Statement.{statement}
-use Rattle.division.proofs.row_table.by_rows.Tie as tie
+use Rattle.division.proofs.Laws.{rows-none, rows-more, rows-all}
+use Rattle.rows.proofs.by_rows.Statement.{statement}
+use Rattle.rows.proofs.by_rows.Tie as tie
 
 abbrev Inv-loop : tie.InvT-loop
 Inv-loop rows field first sum₀ i₀ sum i =
