@@ -1,6 +1,6 @@
 -- Digits, and the numbers and bytes that they write.
 use mathlib.Core.Path.{_≡_, refl, sym, ap, _∙_, subst}
-use mathlib.Core.Bool.{Bool, true, false, cond, _&&_, _||_, and-eq-true-iff}
+use mathlib.Core.Bool.{Bool, true, false, cond, _&&_, _||_, and-eq-true-iff, and-assoc, and-true, true≢false}
 use mathlib.Core.List.{List, [], _∷_}
 use Prim.Native.Nat.{ℕ, suc, _+_, _-_, _*_, _/_, _%_, _^_, _<_, _≤_}
 use native.Mathlib.Nat.{pow-suc, mod-mod, mod-eq-of-lt, div-add-mod, add-mul, mul-assoc, add-assoc, mul-add-mod-self-left, mul-le-mul-left, mul-one, one-mul, pow-le-pow-right}
@@ -9,7 +9,7 @@ use lib.ListN.{length, getD, drop}
 use lib.Dec.{leb}
 use borrow.Author.Tests.{leb-true}
 use Rattle.text.specs.Digits.{hexNumber, decimalNumber, isDecimalDigit, isHexDigit, digitValue, all, numberAfter, bytesOf}
-use Rattle.text.proofs.Parts.{picked, passed-over, both-true, both-false, next-byte, no-more}
+use Rattle.text.proofs.Parts.{picked, passed-over, next-byte, no-more}
 
 -- ---- one digit
 
@@ -26,19 +26,26 @@ letter-range b n e =
     let both = and-eq-true-iff (leb 65 b) (leb b 70) .0 (ap (λ (t : Bool). t || (leb 65 b && leb b 70)) (sym n) ∙ e) in
     (leb-true 65 b (both .0), leb-true b 70 (both .1))
 
-pub value-decimal : (b : ℕ) → isDecimalDigit b ≡ true → b - 48 ≡ digitValue b
-unfolding digitValue
-value-decimal b e = sym (picked (isDecimalDigit b) (b - 48) (cond (isHexDigit b) (b - 55) 0) e)
+decimal-is-hex : (b : ℕ) → isDecimalDigit b ≡ true → true ≡ isHexDigit b
+unfolding isHexDigit
+decimal-is-hex b e = ap (λ (t : Bool). t || (leb 65 b && leb b 70)) (sym e)
 
-pub value-letter : (b : ℕ) → isDecimalDigit b ≡ false → isHexDigit b ≡ true → b - 55 ≡ digitValue b
+pub value-digit : (b : ℕ) → isHexDigit b ≡ true → b % 16 + b / 64 * 9 ≡ digitValue b
 unfolding digitValue
-value-letter b n e =
-    sym (passed-over (isDecimalDigit b) (b - 48) (cond (isHexDigit b) (b - 55) 0) n ∙ picked (isHexDigit b) (b - 55) 0 e)
+value-digit b h = by (isDecimalDigit b) refl
+  where
+    by : (t : Bool) → isDecimalDigit b ≡ t → b % 16 + b / 64 * 9 ≡ cond (isDecimalDigit b) (b - 48) (cond (isHexDigit b) (b - 55) 0)
+    by true e = omega (arith, decimal-range b e, picked (isDecimalDigit b) (b - 48) (cond (isHexDigit b) (b - 55) 0) e)
+    by false e =
+        omega (arith, letter-range b e h, passed-over (isDecimalDigit b) (b - 48) (cond (isHexDigit b) (b - 55) 0) e, picked (isHexDigit b) (b - 55) 0 h)
 
-pub value-none : (b : ℕ) → isDecimalDigit b ≡ false → isHexDigit b ≡ false → 0 ≡ digitValue b
+pub value-none : (b : ℕ) → isHexDigit b ≡ false → 0 ≡ digitValue b
 unfolding digitValue
-value-none b n e =
-    sym (passed-over (isDecimalDigit b) (b - 48) (cond (isHexDigit b) (b - 55) 0) n ∙ passed-over (isHexDigit b) (b - 55) 0 e)
+value-none b h = by (isDecimalDigit b) refl
+  where
+    by : (t : Bool) → isDecimalDigit b ≡ t → 0 ≡ cond (isDecimalDigit b) (b - 48) (cond (isHexDigit b) (b - 55) 0)
+    by true e = absurd (true≢false (decimal-is-hex b e ∙ h))
+    by false e = sym (passed-over (isDecimalDigit b) (b - 48) (cond (isHexDigit b) (b - 55) 0) e ∙ passed-over (isHexDigit b) (b - 55) 0 h)
 
 pub digit-value-lt : (b : ℕ) → digitValue b < 16
 unfolding digitValue
@@ -55,17 +62,17 @@ digit-value-lt b = decimal (isDecimalDigit b) refl
 -- ---- a test of every byte, from a place on
 
 module _ (test : ℕ → Bool) (s : List ℕ) (i : ℕ) where
-  pub passed-here : i < length s → test (getD s i 0) ≡ true → all test (drop i s) ≡ all test (drop (i + 1) s)
+  -- one byte more
+  pub all-more : i < length s → (so-far here : Bool) → here ≡ test (getD s i 0)
+      → ((so-far && here) && all test (drop (i + 1) s)) ≡ (so-far && all test (drop i s))
   unfolding all
-  passed-here h e = ap (all test) (next-byte s i h) ∙ both-true (test (getD s i 0)) (all test (drop (i + 1) s)) e
+  all-more h so-far here e =
+      and-assoc so-far here (all test (drop (i + 1) s))
+      ∙ ap (λ (t : Bool). so-far && t) (ap (λ (t : Bool). t && all test (drop (i + 1) s)) e ∙ sym (ap (all test) (next-byte s i h)))
 
-  pub failed-here : i < length s → test (getD s i 0) ≡ false → all test (drop i s) ≡ false
+  pub all-done : length s ≤ i → (so-far : Bool) → so-far ≡ (so-far && all test (drop i s))
   unfolding all
-  failed-here h e = ap (all test) (next-byte s i h) ∙ both-false (test (getD s i 0)) (all test (drop (i + 1) s)) e
-
-  pub all-passed : length s ≤ i → all test (drop i s) ≡ true
-  unfolding all
-  all-passed h = ap (all test) (no-more s i h)
+  all-done h so-far = sym (ap (λ (l : List ℕ). so-far && all test l) (no-more s i h) ∙ and-true so-far)
 
 -- ---- numbers, from a place on
 

@@ -1,6 +1,6 @@
 -- Reading a list from a place on, and picking by a test.
 use mathlib.Core.Path.{_≡_, sym, ap, _∙_}
-use mathlib.Core.Bool.{Bool, true, false, cond, _&&_}
+use mathlib.Core.Bool.{Bool, true, false, cond}
 use mathlib.Core.List.{List, [], _∷_}
 use Prim.Native.Nat.{ℕ, _+_, _-_, _<_, _≤_}
 use native.Mathlib.Numerals.{add-one}
@@ -24,9 +24,3 @@ picked t a b e = ap (λ (t : Bool). cond t a b) e
 
 pub passed-over : {A : Type 0} (t : Bool) (a b : A) → t ≡ false → cond t a b ≡ b
 passed-over t a b e = ap (λ (t : Bool). cond t a b) e
-
-pub both-true : (a b : Bool) → a ≡ true → (a && b) ≡ b
-both-true a b e = ap (λ (t : Bool). t && b) e
-
-pub both-false : (a b : Bool) → a ≡ false → (a && b) ≡ false
-both-false a b e = ap (λ (t : Bool). t && b) e

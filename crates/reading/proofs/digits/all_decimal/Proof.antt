@@ -1,18 +1,19 @@
--- `reading::digits::all_decimal` meets its contract. The loop's invariant: all bytes before `i` are digits.
-use mathlib.Core.Path.{_≡_, refl, sym, _∙_}
+-- `reading::digits::all_decimal` meets its contract. The loop's invariant: the bytes before `i`, together with those from `i` on.
+use mathlib.Core.Path.{_≡_, refl, _∙_}
+use mathlib.Core.Bool.{_&&_}
 use Prim.Native.Nat.{_-_, _≤_}
 use native.Mathlib.Omega.{arith}
 use lib.ListN.{length, drop}
-use Rattle.text.specs.Digits.{isDecimalDigit, all}
-use Rattle.reading.proofs.Values.{passed-here, failed-here, all-passed}
+use Rattle.text.specs.Digits.{isDecimalDigit, all as every}
+use Rattle.reading.proofs.Values.{all-more, all-done}
 use Rattle.reading.proofs.digits.all_decimal.Statement.{statement}
 use Rattle.reading.proofs.digits.all_decimal.Tie as tie
 
 abbrev Inv-loop : tie.InvT-loop
-Inv-loop s i₀ i = (i ≤ length s) × (all isDecimalDigit s ≡ all isDecimalDigit (drop i s))
+Inv-loop s all₀ i₀ all i = (i ≤ length s) × ((all && every isDecimalDigit (drop i s)) ≡ every isDecimalDigit s)
 
 abbrev μ-loop : tie.MeasureT-loop
-μ-loop s i₀ i = length s - i
+μ-loop s all₀ i₀ all i = length s - i
 
 loop-holds : tie.Need-loop-holds Inv-loop μ-loop
 loop-holds c = (omega arith, refl)
@@ -31,24 +32,15 @@ loop-less c = omega arith
 
 loop-again : tie.Need-loop-again Inv-loop μ-loop
 loop-again c =
-    let s = c .before .before .before .before .before .before .args .s .now in
-    let i = c .before .before .before .before .loop .i in (
+    let s = c .before .before .before .before .before .args .s .now in
+    let l = c .before .before .before .loop in (
       omega arith,
-      c .before .before .before .before .loop .inv .1
-          ∙ passed-here isDecimalDigit s i (c .before .before .before .loop-test .taken) (sym (c .before .is-decimal-digit .ensures) ∙ c .if1 .taken),
+      all-more isDecimalDigit s (l .i) (c .before .before .loop-test .taken) (l .all) (c .is-decimal-digit .result) (c .is-decimal-digit .ensures) ∙ l .inv .1,
     )
 
 returns : tie.Need-returns Inv-loop μ-loop
 returns c =
-    let s = c .before .before .before .before .before .before .args .s .now in
-    let i = c .before .before .before .before .loop .i in
-    sym (c .before .before .before .before .loop .inv .1
-    ∙ failed-here isDecimalDigit s i (c .before .before .before .loop-test .taken) (sym (c .before .is-decimal-digit .ensures) ∙ c .if1 .left))
-
-returns-2 : tie.Need-returns-2 Inv-loop μ-loop
-returns-2 c =
-    let s = c .before .before .before .args .s .now in
-    sym (c .before .loop .inv .1 ∙ all-passed isDecimalDigit s (c .before .loop .i) (c .loop-test .left))
+    all-done isDecimalDigit (c .before .before .before .args .s .now) (c .before .loop .i) (c .loop-test .left) (c .before .loop .all) ∙ c .before .loop .inv .1
 
 pub all-decimal-spec : {M : Type 1} → statement M
 all-decimal-spec =
@@ -62,5 +54,4 @@ all-decimal-spec =
     add-i
     loop-less
     loop-again
-    returns
-    returns-2)
+    returns)
