@@ -6,6 +6,7 @@ ghost use Rattle.windows.specs.Windows.{stored, patternAdded};
 use crate::marks::bits_after;
 use crate::marks::four_bytes;
 
+// Adds a pattern to the window that starts `offset` bits into the part.
 pub fn invert_window(part: &mut [u8], offset: u32, pattern: u32)
     ensures { λ _. ⌜ now (part .exit) ≡ patternAdded (now (part .entry)) offset pattern ⌝ }
 {
