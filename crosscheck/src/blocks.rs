@@ -32,10 +32,6 @@ impl Made {
     ) -> Made {
         Made { text, aim: Some(Aim { group, kind: kind.to_string(), answer }) }
     }
-
-    pub fn malformed(text: Vec<u8>, defect: &'static str) -> Made {
-        Made::aimed(text, MALFORMED, defect, Some("malformed"))
-    }
 }
 
 /// The group of the malformed lines.

@@ -1,11 +1,16 @@
 //! What `calls` has to print for a whole input: one public call a line, four
-//! columns out (line number, answer, value, message after a seal).
+//! columns out (line number, answer, value, message after a seal or the sensor).
 
 use crate::rules::*;
+use crate::sensor::{sense, sensor_rows, Answer};
+use crate::sift::Request;
 use crate::text::*;
 
 /// The most bytes in a byte string.
 pub const MOST_STRING: usize = 32;
+
+/// The most digits of a limit.
+pub const MOST_LIMIT_DIGITS: usize = 9;
 
 /// A well-formed line.
 #[derive(Debug, Clone, PartialEq, Eq)]
@@ -21,6 +26,7 @@ pub enum Call {
     Reply(Vec<u8>, u32),
     Interrogation(Vec<u8>, u32),
     Transponder(Vec<u8>, u32),
+    Sensor(Request),
 }
 
 /// What a call answers.
@@ -31,6 +37,8 @@ pub enum Reply {
     Own,
     AllCall,
     NotOurs(u32),
+    /// The sensor's answer, which is no refusal, and the message after the call.
+    Sensed(Answer, Vec<u8>),
     Refused(u8),
 }
 
@@ -72,6 +80,12 @@ pub fn read(line: &[u8]) -> Option<Call> {
         [b"reply", a, b] => Call::Reply(byte_string(a)?, word(b)?),
         [b"interrogation", a, b] => Call::Interrogation(byte_string(a)?, word(b)?),
         [b"transponder", a, b] => Call::Transponder(byte_string(a)?, word(b)?),
+        [b"sensor", a, b, c, d] => Call::Sensor(Request {
+            message: byte_string(a)?,
+            confidence: byte_string(b)?,
+            word: word(c)?,
+            limit: decimal_number(d, MOST_LIMIT_DIGITS)?,
+        }),
         _ => return None,
     })
 }
@@ -92,6 +106,9 @@ pub fn rows(call: &Call) -> Vec<u8> {
             seal_rows(message, *word)
         }
         Call::Transponder(message, own) => transponder_rows(message, *own),
+        Call::Sensor(Request { message, confidence, word, limit }) => {
+            sensor_rows(message, confidence, *word, *limit)
+        }
     }
 }
 
@@ -117,6 +134,10 @@ pub fn answer(call: &Call) -> Reply {
             Heard::NotOurs(address) => Reply::NotOurs(address),
             Heard::Refused(row) => Reply::Refused(row),
         },
+        Call::Sensor(Request { message, confidence, word, limit }) => {
+            let verdict = sense(message, confidence, *word, *limit);
+            Reply::Sensed(verdict.answer, verdict.message)
+        }
     }
 }
 
@@ -134,6 +155,16 @@ pub fn judge(line: &[u8]) -> Judged {
     Some((call, reply))
 }
 
+/// The value of the sensor's answer: the window, or window, bits and mark.
+fn sensed_value(answer: Answer) -> String {
+    match answer {
+        Answer::Refused(row) => row.to_string(),
+        Answer::Clean | Answer::NoFit => "-".to_string(),
+        Answer::Dense { window } => window.to_string(),
+        Answer::Corrected { window, ones, mark } => format!("{window},{ones},{}", mark.word()),
+    }
+}
+
 /// The output line for what came of line `number`.
 pub fn print(number: usize, judged: &Judged) -> String {
     let Some((call, reply)) = judged else {
@@ -145,8 +176,13 @@ pub fn print(number: usize, judged: &Judged) -> String {
         Reply::Own => "own - -".to_string(),
         Reply::AllCall => "allcall - -".to_string(),
         Reply::NotOurs(address) => format!("notours {address:06X} -"),
+        Reply::Sensed(answer, message) => {
+            format!("{} {} {}", answer.word(), sensed_value(*answer), hex_or_dash(message))
+        }
         Reply::Refused(row) => match call {
-            Call::Reply(message, _) | Call::Interrogation(message, _) => {
+            Call::Reply(message, _)
+            | Call::Interrogation(message, _)
+            | Call::Sensor(Request { message, .. }) => {
                 format!("refused {row} {}", hex_or_dash(message))
             }
             _ => format!("refused {row} -"),
@@ -165,4 +201,50 @@ pub fn output_and_show(input: &[u8], met: impl FnMut(usize, &Judged)) -> Vec<u8>
 
 pub fn output(input: &[u8]) -> Vec<u8> {
     output_and_show(input, |_, _| ())
+}
+
+#[cfg(test)]
+mod tests {
+    use super::*;
+
+    fn printed(line: &str) -> String {
+        print(1, &judge(line.as_bytes()))
+    }
+
+    /// Document 01's values for the sensor, in the columns of `calls`.
+    #[test]
+    fn the_sensor_of_document_01() {
+        for (arguments, columns) in [
+            ("00000000EB2472 00008000000000 123456 24", "corrected 0,1,sole 00008000EB2472"),
+            ("00000000EB2472 00008000000000 123456 0", "dense 0 00000000EB2472"),
+            ("00000000EB2472 00004000000000 123456 000000024", "nofit - 00000000EB2472"),
+            ("00008000EB2472 - 123456 24", "refused 2 00008000EB2472"),
+            ("00008000EB2472 00000000000000 00123456 24", "clean - 00008000EB2472"),
+            ("00008000EB2473 00000000000001 123456 24", "corrected 32,1,sole 00008000EB2472"),
+            ("00000001000000 00000001FFF409 0 15", "corrected 8,1,several 00000000000000"),
+            ("00000001000000 00000001FFF409 0 14", "dense 29 00000001000000"),
+            ("00008000EB2472 00000000000000 123456 999999999", "refused 4 00008000EB2472"),
+            ("00008000EB2472 00000000000000 1123456 25", "refused 3 00008000EB2472"),
+            ("- 00 1000000 25", "refused 1 -"),
+        ] {
+            assert_eq!(printed(&format!("sensor {arguments}")), format!("1 {columns}\n"));
+        }
+    }
+
+    #[test]
+    fn columns_that_no_call_has() {
+        for line in [
+            "sensor 00000000EB2472 00008000000000 123456",
+            "sensor 00000000EB2472 00008000000000 123456 24 24",
+            "sensor 00000000EB2472 00008000000000 123456 0000000024",
+            "sensor 00000000EB2472 00008000000000 123456 -",
+            "sensor 00000000EB2472 00008000000000 - 24",
+            "reply 00000000EB2472 00008000000000 123456 24",
+            "bits",
+            "bits ",
+            "register 000000 2",
+        ] {
+            assert_eq!(printed(line), "1 malformed - -\n", "{line}");
+        }
+    }
 }

@@ -5,10 +5,12 @@ use crate::blocks::{Aim, INPUTS, MALFORMED};
 use crate::calls::{rows, Call, Judged, Reply};
 use crate::calls_lines::*;
 use crate::rules::{format_number, HIGHEST};
+use crate::sensor::{Answer, Mark};
+use crate::sensor_kinds;
 use crate::tally::{Group, Tally};
 
 const ANSWERS: &str = "answers";
-const TOGETHER: &str = "rows of the table of refusals that apply together";
+const TOGETHER: &str = "rows of the table of refusals that apply, alone or together";
 const STRINGS: &str = "byte strings, by call and number of bytes";
 const WORDS: &str = "words, by call and number of digits";
 const SINGLE_BIT: &str = "fields with a single one, by call, length and bit";
@@ -44,15 +46,24 @@ fn answers() -> Vec<String> {
     }
     kinds.extend([7, 14].map(|bytes| format!("transponder notours, {bytes} bytes")));
     kinds.extend([1, 3, 5, 6].map(|row| format!("transponder refused {row}")));
+    for answer in ["clean", "dense", "nofit", "corrected sole", "corrected several"] {
+        kinds.extend([7, 14].map(|bytes| format!("sensor {answer}, {bytes} bytes")));
+    }
+    kinds.extend([1, 2, 3, 4].map(|row| format!("sensor refused {row}")));
     kinds.push("malformed".to_string());
     kinds
 }
 
+/// Every set of rows that can meet in a call that more than one can refuse.
 fn together() -> Vec<String> {
-    let seals = ["reply", "interrogation"];
-    let mut kinds: Vec<String> =
-        seals.iter().flat_map(|name| [format!("{name} 1, 3"), format!("{name} 3, 5")]).collect();
-    kinds.extend(["1, 3", "1, 6", "3, 5", "5, 6"].map(|rows| format!("transponder {rows}")));
+    let mut kinds = Vec::new();
+    for name in ["reply", "interrogation"] {
+        kinds.extend(["1", "3", "5", "1, 3", "3, 5"].map(|rows| format!("{name} {rows}")));
+    }
+    for rows in ["1", "3", "5", "6", "1, 3", "1, 6", "3, 5", "5, 6"] {
+        kinds.push(format!("transponder {rows}"));
+    }
+    kinds.extend(sensor_kinds::sets_of_rows().iter().map(|rows| format!("sensor {rows}")));
     kinds
 }
 
@@ -75,8 +86,8 @@ fn hit_windows() -> Vec<String> {
 
 /// All groups, with the kinds that a run has to meet.
 pub fn groups(special: &[&'static str]) -> Vec<Group> {
-    let with_bytes = [&OF_A_FIELD[..], &OF_A_MESSAGE, &OF_BOTH].concat();
-    let with_words = [&OF_A_WORD[..], &OF_BOTH].concat();
+    let with_bytes = [&OF_A_FIELD[..], &OF_A_MESSAGE, &OF_BOTH, &["sensor"]].concat();
+    let with_words = [&OF_A_WORD[..], &OF_BOTH, &["sensor"]].concat();
     let others = [
         ALL_OTHER_FORMAT,
         FORMAT_OTHER_ADDRESS,
@@ -86,7 +97,7 @@ pub fn groups(special: &[&'static str]) -> Vec<Group> {
         OWN_LOWEST,
         OWN_HIGHEST,
     ];
-    vec![
+    let mut groups = vec![
         Group::each(ANSWERS, answers()),
         Group::each(TOGETHER, together()),
         Group::summed(HIT, hit_windows()),
@@ -99,7 +110,9 @@ pub fn groups(special: &[&'static str]) -> Vec<Group> {
         Group::each(OTHERS, others),
         Group::each(MALFORMED, defects().iter().map(|defect| defect.0)),
         Group::each(INPUTS, special),
-    ]
+    ];
+    groups.extend(sensor_kinds::groups());
+    groups
 }
 
 /// The call's name, its bytes and its word, as far as it has them.
@@ -116,6 +129,7 @@ fn parts(call: &Call) -> (&'static str, Option<&[u8]>, Option<u32>) {
         Call::Reply(bytes, word) => ("reply", Some(bytes), Some(*word)),
         Call::Interrogation(bytes, word) => ("interrogation", Some(bytes), Some(*word)),
         Call::Transponder(bytes, word) => ("transponder", Some(bytes), Some(*word)),
+        Call::Sensor(request) => ("sensor", Some(&request.message), Some(request.word)),
     }
 }
 
@@ -127,6 +141,11 @@ fn answer_word(judged: &Judged) -> &'static str {
         Some((_, Reply::Own)) => "own",
         Some((_, Reply::AllCall)) => "allcall",
         Some((_, Reply::NotOurs(_))) => "notours",
+        Some((_, Reply::Sensed(Answer::Corrected { mark, .. }, _))) => match mark {
+            Mark::Sole => "corrected sole",
+            Mark::Several => "corrected several",
+        },
+        Some((_, Reply::Sensed(answer, _))) => answer.word(),
         Some((_, Reply::Refused(_))) => "refused",
     }
 }
@@ -150,7 +169,7 @@ pub fn count(tally: &mut Tally, line: &[u8], judged: &Judged, aim: Option<&Aim>)
         _ => tally.add(ANSWERS, format!("{name} {answer}{length}")),
     }
     let rows: Vec<String> = rows(call).iter().map(u8::to_string).collect();
-    if rows.len() > 1 {
+    if !rows.is_empty() && (OF_BOTH.contains(&name) || name == "sensor") {
         tally.add(TOGETHER, format!("{name} {}", rows.join(", ")));
     }
     if let Some(bytes) = bytes {
@@ -159,6 +178,9 @@ pub fn count(tally: &mut Tally, line: &[u8], judged: &Judged, aim: Option<&Aim>)
     }
     if let Some(word) = word {
         count_word(tally, name, line, word);
+    }
+    if let Call::Sensor(request) = call {
+        sensor_kinds::count(tally, line, request, reply);
     }
     count_others(tally, call, reply);
 }
@@ -177,7 +199,11 @@ fn count_field(tally: &mut Tally, name: &str, field: &[u8], reply: &Reply) {
 }
 
 fn count_word(tally: &mut Tally, name: &str, line: &[u8], word: u32) {
-    let place = if OF_A_WORD.contains(&name) { 1 } else { 2 };
+    let place = match name {
+        "sensor" => 3,
+        _ if OF_A_WORD.contains(&name) => 1,
+        _ => 2,
+    };
     let text = line.split(|byte| *byte == b' ').nth(place).unwrap_or(b"");
     tally.add(WORDS, format!("{name} {}", text.len()));
     if OF_A_WORD.contains(&name) && word.is_power_of_two() && word <= HIGHEST {

@@ -1,12 +1,14 @@
 //! Lines for `calls`: every call on both lengths, every refusal alone and with
-//! another, interrogations hit by a burst, and malformed lines.
+//! another, interrogations hit by a burst, and malformed lines. Those of the
+//! sensor are made by `sensor_lines`.
 
-use crate::blocks::Made;
+use crate::blocks::{Made, MALFORMED};
 use crate::defects::*;
 use crate::poly::*;
 use crate::random::Random;
 use crate::rules::*;
 use crate::sensor::{invert, windows};
+use crate::sensor_lines;
 use crate::text::hex_or_dash;
 
 /// The group of interrogations sealed for an address, hit by a burst, and given
@@ -33,7 +35,7 @@ fn word_text(random: &mut Random, word: u32) -> Vec<u8> {
 }
 
 /// A word above 24 bits.
-fn word_above(random: &mut Random) -> u32 {
+pub fn word_above(random: &mut Random) -> u32 {
     let above = random.number() as u32 | 1 << random.from_to(24, 31);
     *random.pick(&[above, above, 0x100_0000, u32::MAX])
 }
@@ -57,15 +59,15 @@ fn any_word(random: &mut Random, every: usize) -> u32 {
     }
 }
 
-fn name(text: &str) -> Column {
+pub fn name(text: &str) -> Column {
     (Sort::Name, text.as_bytes().to_vec())
 }
 
-fn string(bytes: &[u8]) -> Column {
+pub fn string(bytes: &[u8]) -> Column {
     (Sort::Bytes, hex_or_dash(bytes).into_bytes())
 }
 
-fn word(random: &mut Random, value: u32) -> Column {
+pub fn word(random: &mut Random, value: u32) -> Column {
     (Sort::Word, word_text(random, value))
 }
 
@@ -248,7 +250,8 @@ fn refused_twice(random: &mut Random) -> Vec<Made> {
     lines
 }
 
-/// A well-formed line, as columns, of a call that is not refused.
+/// A well-formed line, as columns, of a call other than the sensor's that is not
+/// refused.
 fn well_formed(random: &mut Random) -> Vec<Column> {
     let all = [&OF_A_WORD[..], &OF_A_FIELD, &OF_A_MESSAGE, &OF_BOTH].concat();
     let name = *random.pick(&all);
@@ -261,9 +264,13 @@ fn well_formed(random: &mut Random) -> Vec<Column> {
     call(random, name, &bytes, value)
 }
 
-/// A well-formed line.
+/// A well-formed line, one time in twelve of the sensor.
 pub fn any_line(random: &mut Random) -> Vec<u8> {
-    join(&well_formed(random))
+    if random.one_in(12) {
+        join(&sensor_lines::well_formed(random))
+    } else {
+        join(&well_formed(random))
+    }
 }
 
 /// Replaces the first column of a sort by a text; none if there is no such one.
@@ -316,8 +323,9 @@ pub fn defects() -> Vec<Defect> {
 
 /// Lines of all recipes, every window once, in a random order.
 pub fn round(random: &mut Random) -> Vec<Made> {
-    let mut lines = spoiled(random, defects(), well_formed);
+    let mut lines = spoiled(random, MALFORMED, defects(), well_formed);
     lines.extend(all_lengths(random));
+    lines.extend(sensor_lines::round(random));
     for length in [7, 14] {
         lines.extend(windows(8 * length).map(|window| hit(random, length, window)));
         lines.push(generator_added(random, length));
@@ -336,4 +344,33 @@ pub fn round(random: &mut Random) -> Vec<Made> {
     }
     random.shuffle(&mut lines);
     lines
+}
+
+#[cfg(test)]
+mod tests {
+    use super::*;
+    use crate::calls::{judge, read, Reply};
+
+    /// Where a call has a column that can be so spoiled.
+    #[test]
+    fn every_defect_spoils_every_line() {
+        let mut random = Random::new(23);
+        for _ in 0..200 {
+            for (name, spoil) in defects() {
+                let columns = well_formed(&mut random);
+                if let Some(line) = spoil(&columns, &mut random) {
+                    assert_eq!(read(&line), None, "{name}: {}", line.escape_ascii());
+                }
+            }
+        }
+    }
+
+    #[test]
+    fn well_formed_lines_are_not_refused() {
+        let mut random = Random::new(24);
+        for _ in 0..500 {
+            let judged = judge(&any_line(&mut random));
+            assert!(!matches!(judged, None | Some((_, Reply::Refused(_)))));
+        }
+    }
 }

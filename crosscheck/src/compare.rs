@@ -1,11 +1,13 @@
 //! The subcommand `compare`: makes lines, has the reference and the built
-//! program answer them, compares byte for byte, counts the kinds.
+//! program answer them, compares byte for byte, counts the kinds; and holds the
+//! built `sift` to sealed replies that a burst has hit.
 
 use crate::blocks::{pack, special_blocks, Aim, Block, Made, INPUTS};
 use crate::random::Random;
-use crate::run::{first_difference, run};
+use crate::run::{first_difference, run_and_hear, Written};
 use crate::tally::Tally;
-use crate::{calls, calls_kinds, calls_lines, fast_calls, fast_sift, selftest};
+use crate::text::MOST_BYTES;
+use crate::{calls, calls_kinds, calls_lines, fast_calls, fast_sift, hit_replies, selftest};
 use crate::{sift, sift_kinds, sift_lines};
 use std::path::Path;
 use std::time::Instant;
@@ -91,13 +93,18 @@ impl Comparison<'_> {
         self.inputs += 1;
         let expected = (self.subject.expected)(&mut self.tally, &block.bytes, &block.aims);
         let who = self.program.display().to_string();
-        let output = match run(self.program, &block.bytes, block.feed) {
-            Ok(output) => output,
+        let Written { output, said } = match run_and_hear(self.program, &block.bytes, block.feed) {
+            Ok(written) => written,
             Err(error) => {
                 self.note(&who, format!("{error} (input of {} bytes)", block.bytes.len()));
                 return false;
             }
         };
+        // on standard error the program says that an input is too long, and nothing else
+        let too_long = block.bytes.len() > MOST_BYTES;
+        if said.contains("too long") != too_long || said.is_empty() == too_long {
+            self.note(&who, format!("said '{said}' of an input of {} bytes", block.bytes.len()));
+        }
         if let Some(difference) = first_difference(&block.bytes, &expected, &output) {
             self.note(&who, difference);
         }
@@ -164,10 +171,12 @@ fn compare_program(subject: &Subject, program: &Path) -> bool {
     comparison.report(start.elapsed().as_secs_f64())
 }
 
-/// Compares both programs; true if all is equal and every kind was tried.
+/// Compares both programs, and holds `sift` to what was sent; true if all is
+/// right and every kind was tried.
 pub fn compare(calls: &Path, sift: &Path) -> Result<bool, String> {
     println!("{}\n", selftest::published_values()?);
     let mut equal = compare_program(&SIFT, sift);
+    equal &= hit_replies::hold(sift);
     equal &= compare_program(&CALLS, calls);
     println!(
         "{}",

@@ -26,16 +26,19 @@ pub type Column = (Sort, Vec<u8>);
 /// cannot be spoiled so.
 pub type Defect = (&'static str, fn(&[Column], &mut Random) -> Option<Vec<u8>>);
 
-/// A line of each defect that the columns of a well-formed line can have.
+/// A line of each defect that the columns of a well-formed line can have, aimed
+/// at a kind of the group.
 pub fn spoiled<C: AsRef<[Column]>>(
     random: &mut Random,
+    group: &'static str,
     defects: Vec<Defect>,
     well_formed: fn(&mut Random) -> C,
 ) -> Vec<Made> {
     let mut made = Vec::new();
     for (name, spoil) in defects {
         let columns = well_formed(random);
-        made.extend(spoil(columns.as_ref(), random).map(|text| Made::malformed(text, name)));
+        let text = spoil(columns.as_ref(), random);
+        made.extend(text.map(|text| Made::aimed(text, group, name, Some("malformed"))));
     }
     made
 }

@@ -190,8 +190,8 @@ fn put_answer(out: &mut Vec<u8>, request: &Request) {
             out.push(b' ');
             put_number(out, candidate.count_ones());
             out.extend_from_slice(if several { b" several " } else { b" sole " });
-            let mended = number_of(request.message, bytes) ^ u128::from(candidate) << place;
-            put_message(out, mended, bytes);
+            let corrected = number_of(request.message, bytes) ^ u128::from(candidate) << place;
+            put_message(out, corrected, bytes);
         }
     }
 }

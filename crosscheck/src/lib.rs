@@ -20,9 +20,12 @@
 //! - `random`: a small generator of numbers with a fixed seed;
 //! - `defects`: ways to spoil a well-formed line;
 //! - `blocks`: lines packed into inputs, and inputs of special sizes;
-//! - `sift_lines`, `calls_lines`: the makers of lines;
-//! - `tally`, `sift_kinds`, `calls_kinds`: what was tried, and what must be;
+//! - `sift_lines`, `calls_lines`, `sensor_lines`: the makers of lines;
+//! - `tally`, `sift_kinds`, `calls_kinds`, `sensor_kinds`: what was tried, and what
+//!   must be;
 //! - `run`: a program as a child process, and the first difference;
+//! - `hit_replies`: sealed replies that a burst has hit, and the built `sift` held
+//!   to what was sent;
 //! - `compare`: the subcommand that puts these together.
 //!
 //! Beside it:
@@ -40,6 +43,7 @@ pub mod defects;
 pub mod fast;
 pub mod fast_calls;
 pub mod fast_sift;
+pub mod hit_replies;
 pub mod limit;
 pub mod picture;
 pub mod poly;
@@ -48,6 +52,8 @@ pub mod rules;
 pub mod run;
 pub mod selftest;
 pub mod sensor;
+pub mod sensor_kinds;
+pub mod sensor_lines;
 pub mod sift;
 pub mod sift_kinds;
 pub mod sift_lines;

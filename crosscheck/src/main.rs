@@ -8,6 +8,8 @@ use std::process::ExitCode;
 const USAGE: &str = "\
 crosscheck compare CALLS SIFT   compare the built programs with the reference
 crosscheck limit FOLDER         simulate what the density limit costs; table and pictures
+crosscheck limit FOLDER second=P missed=P near=P elsewhere=P
+                                the same for one model of your own, each P in percent
 crosscheck speed SIFT CALLS     measure the built programs against programs written for speed
 crosscheck selftest             check the reference and the fast programs
 crosscheck answer sift|calls    answer standard input as the reference does
@@ -29,6 +31,9 @@ fn run(arguments: &[&str]) -> Result<bool, String> {
     match arguments {
         ["compare", calls, sift] => compare::compare(Path::new(calls), Path::new(sift)),
         ["limit", folder] => limit::limit(Path::new(folder)).map(|()| true),
+        ["limit", folder, numbers @ ..] => {
+            limit::limit_of_own(Path::new(folder), numbers).map(|()| true)
+        }
         ["speed", sift, calls] => speed::speed(Path::new(sift), Path::new(calls)).map(|()| true),
         ["selftest"] => selftest::run_all().map(|()| true),
         ["answer", name] => answer(name).map(|()| true),

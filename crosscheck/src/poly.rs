@@ -121,6 +121,21 @@ mod tests {
         assert_eq!(word_of_bits(generator()), 0x1FF_F409);
     }
 
+    /// Document 01's values of R: the remainder of x^24 times the field.
+    #[test]
+    fn the_remainders_of_document_01() {
+        for (field, expected) in [
+            (0x0000_0000, 0x00_0000),
+            (0x0000_0001, 0xFF_F409),
+            (0x0000_0002, 0x00_1C1B),
+            (0x0000_0003, 0xFF_E812),
+            (0x0000_8000, 0xF9_1024),
+        ] {
+            let dividend = times_power(&bits_of_word(field, 32), DEGREE);
+            assert_eq!(word_of_bits(&remainder(&dividend)), expected, "{field:08X}");
+        }
+    }
+
     /// ATC-117, Fig. 4-3: x^7+x^6+x^5+x+1 by x^4+x^2+1.
     #[test]
     fn the_division_of_atc_117() {

@@ -1,5 +1,6 @@
-//! A program as a child process: an input is fed to it, its standard output is
-//! taken, and the first line that differs from the expected output is shown.
+//! A program as a child process: an input is fed to it, its standard output and
+//! what it says on standard error are taken, and the first line that differs from
+//! the expected output is shown.
 
 use std::fs::File;
 use std::io::{Read, Write};
@@ -55,9 +56,28 @@ impl Drop for TemporaryFile {
     }
 }
 
-/// The standard output of a program for an input. An error if it cannot be
-/// run, does not end in time, or ends with a status other than 0.
+/// What a program wrote: its output, and what it said on standard error.
+#[derive(Debug, PartialEq, Eq)]
+pub struct Written {
+    pub output: Vec<u8>,
+    pub said: String,
+}
+
+/// The output of a program that has nothing to say on standard error. An error
+/// if it says something, cannot be run, does not end in time, or ends with a
+/// status other than 0.
 pub fn run(program: &Path, input: &[u8], feed: Feed) -> Result<Vec<u8>, String> {
+    let Written { output, said } = run_and_hear(program, input, feed)?;
+    if said.is_empty() {
+        Ok(output)
+    } else {
+        Err(format!("{} said: {said}", program.display()))
+    }
+}
+
+/// What a program writes for an input. An error if it cannot be run, does not
+/// end in time, or ends with a status other than 0.
+pub fn run_and_hear(program: &Path, input: &[u8], feed: Feed) -> Result<Written, String> {
     let file = match feed {
         Feed::File => Some(TemporaryFile::new(input)?),
         _ => None,
@@ -69,16 +89,20 @@ pub fn run(program: &Path, input: &[u8], feed: Feed) -> Result<Vec<u8>, String> 
     let mut child = Command::new(program)
         .stdin(stdin)
         .stdout(Stdio::piped())
+        .stderr(Stdio::piped())
         .spawn()
         .map_err(|error| format!("{}: {error}", program.display()))?;
     thread::scope(|scope| {
         if let Some(pipe) = child.stdin.take() {
             scope.spawn(move || write_all(pipe, input, feed));
         }
-        let output = collect(&mut child)?;
+        let stdout = read_all(child.stdout.take().expect("a pipe"));
+        let stderr = read_all(child.stderr.take().expect("a pipe"));
+        let output = collect(&mut child, &stdout)?;
+        let said = String::from_utf8_lossy(&collect(&mut child, &stderr)?).into_owned();
         let status = child.wait().map_err(|error| error.to_string())?;
         if status.success() {
-            Ok(output)
+            Ok(Written { output, said })
         } else {
             Err(format!("{} ended with {status}", program.display()))
         }
@@ -100,16 +124,23 @@ fn write_all(mut pipe: ChildStdin, input: &[u8], feed: Feed) {
     }
 }
 
-/// Reads the child's output to its end, or stops the child.
-fn collect(child: &mut Child) -> Result<Vec<u8>, String> {
-    let mut stdout = child.stdout.take().expect("a pipe");
+/// What a pipe brings, once it has ended.
+type Brought = mpsc::Receiver<std::io::Result<Vec<u8>>>;
+
+/// Reads a pipe to its end, in a thread of its own.
+fn read_all(mut pipe: impl Read + Send + 'static) -> Brought {
     let (sender, receiver) = mpsc::channel();
     thread::spawn(move || {
-        let mut output = Vec::new();
-        let result = stdout.read_to_end(&mut output).map(|_| output);
+        let mut bytes = Vec::new();
+        let result = pipe.read_to_end(&mut bytes).map(|_| bytes);
         let _ = sender.send(result);
     });
-    match receiver.recv_timeout(PATIENCE) {
+    receiver
+}
+
+/// What one of the child's pipes brings, or stops the child.
+fn collect(child: &mut Child, brought: &Brought) -> Result<Vec<u8>, String> {
+    match brought.recv_timeout(PATIENCE) {
         Ok(result) => result.map_err(|error| error.to_string()),
         Err(_) => {
             let _ = child.kill();
@@ -170,6 +201,15 @@ mod tests {
     fn a_program_that_fails_or_is_not_there() {
         assert!(run(Path::new("false"), b"", Feed::File).is_err());
         assert!(run(Path::new("/no/such/program"), b"", Feed::File).is_err());
+    }
+
+    #[test]
+    fn a_program_that_says_something() {
+        let shell = Path::new("sh");
+        let commands = b"echo output; echo said >&2";
+        let written = Written { output: b"output\n".to_vec(), said: "said\n".to_string() };
+        assert_eq!(run_and_hear(shell, commands, Feed::Pipe), Ok(written));
+        assert!(run(shell, commands, Feed::Pipe).is_err());
     }
 
     #[test]

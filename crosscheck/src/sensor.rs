@@ -19,6 +19,16 @@ pub enum Mark {
     Several,
 }
 
+impl Mark {
+    /// The mark's word in the output of both programs.
+    pub fn word(self) -> &'static str {
+        match self {
+            Mark::Sole => "sole",
+            Mark::Several => "several",
+        }
+    }
+}
+
 #[derive(Debug, PartialEq, Eq, Clone, Copy)]
 pub enum Answer {
     Refused(u8),
@@ -26,6 +36,19 @@ pub enum Answer {
     Dense { window: usize },
     NoFit,
     Corrected { window: usize, ones: usize, mark: Mark },
+}
+
+impl Answer {
+    /// The answer's word in the output of both programs.
+    pub fn word(self) -> &'static str {
+        match self {
+            Answer::Refused(_) => "refused",
+            Answer::Clean => "clean",
+            Answer::Dense { .. } => "dense",
+            Answer::NoFit => "nofit",
+            Answer::Corrected { .. } => "corrected",
+        }
+    }
 }
 
 /// A fit: the window it was found in, and the message bits (from 1) it inverts.
@@ -129,6 +152,55 @@ mod tests {
     use super::*;
     use crate::random::Random;
     use crate::rules::with_parity;
+
+    fn bytes(text: &str) -> Vec<u8> {
+        crate::text::hex_bytes(text.as_bytes(), 14).expect("digits")
+    }
+
+    /// Document 01's values for the sensor, with the message after the call.
+    #[test]
+    fn the_bench_values_of_document_01() {
+        let corrected = |window, mark| Answer::Corrected { window, ones: 1, mark };
+        let word = 0x12_3456;
+        let restored = "00008000EB2472";
+        let low_17 = "00008000000000";
+        let hit_17 = "00000000EB2472";
+        let bit_32 = "00000001000000";
+        let two_fits = "00000001FFF409";
+        for (message, low, word, limit, answer, after) in [
+            (hit_17, low_17, word, 24, corrected(0, Mark::Sole), restored),
+            (hit_17, low_17, word, 0, Answer::Dense { window: 0 }, hit_17),
+            (hit_17, "00004000000000", word, 24, Answer::NoFit, hit_17),
+            (hit_17, "0000C000000000", word, 2, corrected(0, Mark::Sole), restored),
+            (hit_17, "0000C000000000", word, 1, Answer::Dense { window: 0 }, hit_17),
+            ("00008000EB2473", "00000000000001", word, 24, corrected(32, Mark::Sole), restored),
+            (bit_32, two_fits, 0, 15, corrected(8, Mark::Several), "00000000000000"),
+            (bit_32, two_fits, 0, 14, Answer::Dense { window: 29 }, bit_32),
+            (restored, "FFFFFFFFFFFFFF", word, 0, Answer::Clean, restored),
+        ] {
+            let verdict = sense(&bytes(message), &bytes(low), word, limit);
+            assert_eq!((verdict.answer, verdict.message), (answer, bytes(after)));
+        }
+    }
+
+    /// Of several rows that apply the lowest is the answer.
+    #[test]
+    fn the_lowest_row_refuses() {
+        for (message, confidence, word, limit, rows) in [
+            (6, 6, 0, 24, vec![1]),
+            (7, 14, 0, 24, vec![2]),
+            (7, 7, 0x100_0000, 24, vec![3]),
+            (14, 14, 0xFF_FFFF, 25, vec![4]),
+            (0, 7, u32::MAX, u32::MAX, vec![1, 2, 3, 4]),
+            (14, 7, 0x100_0000, 25, vec![2, 3, 4]),
+        ] {
+            let (message, confidence) = (vec![0; message], vec![0; confidence]);
+            assert_eq!(sensor_rows(&message, &confidence, word, limit), rows);
+            let verdict = sense(&message, &confidence, word, limit);
+            assert_eq!(verdict.answer, Answer::Refused(rows[0]));
+            assert_eq!(verdict.message, message);
+        }
+    }
 
     /// The fits by the letter: every nonzero pattern on low bits of a window is
     /// applied to the message, and the whole is divided.

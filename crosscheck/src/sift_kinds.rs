@@ -84,16 +84,7 @@ pub fn groups(special: &[&'static str]) -> Vec<Group> {
 
 /// The answer's word in `sift`'s output.
 fn answer_word(judged: &Judged) -> &'static str {
-    match judged {
-        None => "malformed",
-        Some((_, verdict)) => match verdict.answer {
-            Answer::Refused(_) => "refused",
-            Answer::Clean => "clean",
-            Answer::Dense { .. } => "dense",
-            Answer::NoFit => "nofit",
-            Answer::Corrected { .. } => "corrected",
-        },
-    }
+    judged.as_ref().map_or("malformed", |(_, verdict)| verdict.answer.word())
 }
 
 /// Counts a line under all kinds that it is of.

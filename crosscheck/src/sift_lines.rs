@@ -1,7 +1,7 @@
 //! Lines for `sift`. Each recipe is made so that a rare case is certain or
 //! likely; what really came out is asked of the reference and counted.
 
-use crate::blocks::Made;
+use crate::blocks::{Made, MALFORMED};
 use crate::defects::*;
 use crate::poly::*;
 use crate::random::Random;
@@ -28,7 +28,7 @@ fn columns(message: &[u8], confidence: &[u8], word: u32, limit: &str) -> [Column
 }
 
 /// A line of a message and its low marks, both as bits.
-fn line(message: &[bool], low: &[bool], word: u32, limit: usize) -> Vec<u8> {
+pub fn line(message: &[bool], low: &[bool], word: u32, limit: usize) -> Vec<u8> {
     join(&columns(&bytes_of_bits(message), &bytes_of_bits(low), word, &limit.to_string()))
 }
 
@@ -56,7 +56,7 @@ fn sealed(random: &mut Random, n: usize, word: u32) -> Bits {
 }
 
 /// Message bits of a burst in a window, 1 to 24 of them. The window's first bit
-/// is one of them, so that no lower window holds the burst.
+/// is one of them, so that no higher window holds the burst.
 fn burst(random: &mut Random, window: usize) -> Vec<usize> {
     let more = random.below(DEGREE);
     let mut bits = vec![window + 1];
@@ -126,14 +126,14 @@ fn missed(random: &mut Random, n: usize, window: usize) -> Made {
 
 /// The only change in a window that has the given remainder, all its bits taken
 /// as low.
-fn change_in(n: usize, window: usize, syndrome: u32) -> Vec<usize> {
+pub fn change_in(n: usize, window: usize, syndrome: u32) -> Vec<usize> {
     let bits = low_bits(&vec![true; n], window);
     let remainders: Vec<u32> = bits.iter().map(|bit| remainder_of_bit(n, *bit)).collect();
     let chosen = eliminate(&remainders, syndrome).expect("24 independent remainders");
     bits.into_iter().zip(chosen).filter(|(_, chosen)| *chosen).map(|(bit, _)| bit).collect()
 }
 
-fn remainder_of_change(n: usize, bits: &[usize]) -> u32 {
+pub fn remainder_of_change(n: usize, bits: &[usize]) -> u32 {
     bits.iter().fold(0, |sum, bit| sum ^ remainder_of_bit(n, *bit))
 }
 
@@ -305,9 +305,26 @@ pub fn defects() -> Vec<Defect> {
     [&OF_THE_LINE[..], &OF_A_NUMBER[..], &OF_SIFT[..]].concat()
 }
 
+/// One line of each recipe for a reply that is not refused.
+pub fn one_of_each(random: &mut Random, n: usize) -> Vec<Made> {
+    let last = n - DEGREE;
+    let window = random.below(last);
+    let later = random.from_to(window + 1, last);
+    vec![
+        clean(random, n),
+        hit(random, n, later),
+        dense(random, n, window),
+        two_changes(random, n, window, later),
+        equal_patterns(random, n),
+        missed(random, n, later),
+        unsealed(random, n),
+        broad(random, n),
+    ]
+}
+
 /// Lines of all recipes, every window once or more, in a random order.
 pub fn round(random: &mut Random) -> Vec<Made> {
-    let mut made = spoiled(random, defects(), well_formed);
+    let mut made = spoiled(random, MALFORMED, defects(), well_formed);
     for n in LENGTHS {
         let last = n - DEGREE;
         for window in windows(n) {
@@ -341,6 +358,19 @@ pub fn round(random: &mut Random) -> Vec<Made> {
 #[cfg(test)]
 mod tests {
     use super::*;
+
+    #[test]
+    fn every_defect_spoils_every_line() {
+        let mut random = Random::new(22);
+        for _ in 0..50 {
+            for (name, spoil) in defects() {
+                let columns = well_formed(&mut random);
+                assert!(crate::sift::read(&join(&columns)).is_some());
+                let line = spoil(&columns, &mut random).expect("sift has such a column");
+                assert!(crate::sift::read(&line).is_none(), "{name}: {}", line.escape_ascii());
+            }
+        }
+    }
 
     #[test]
     fn equal_patterns_have_one_remainder() {

@@ -24,6 +24,13 @@ pub struct Model {
     pub elsewhere: f64,
 }
 
+impl Model {
+    /// One burst, and a low mark on every bit that it changes.
+    pub fn is_perfect(&self) -> bool {
+        self.miss == 0.0 && self.second_burst == 0.0
+    }
+}
+
 /// The chance that a bit inside a burst's span is changed.
 pub const CHANGED: f64 = 0.3;
 
@@ -134,8 +141,8 @@ impl Solver {
         changes
     }
 
-    /// What the sensor says, and the bits in which the repair differs from the
-    /// change: none where it is undone, or nothing is repaired.
+    /// What the sensor says, and the bits in which the correction differs from the
+    /// change: none where it is undone, or nothing is corrected.
     pub fn outcome(&self, hit: &Hit) -> (Outcome, u128) {
         let syndrome = remainder_of(hit.changed);
         if syndrome == 0 {
@@ -200,7 +207,7 @@ pub fn densest(n: usize, low: u128) -> usize {
 /// How often each outcome came, by the highest density of the reply.
 pub struct Counts {
     by_density: [[u64; 25]; 6],
-    /// The wrong repairs marked several that differ from the change by
+    /// The wrong corrections marked several that differ from the change by
     /// (x + 1)·G at some place.
     pub several_by_lone_bit: u64,
 }

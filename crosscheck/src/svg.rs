@@ -16,6 +16,15 @@ pub enum Anchor {
     End,
 }
 
+/// How the points of a line look, so that two lines differ in more than colour.
+#[derive(Clone, Copy)]
+pub enum Mark {
+    /// Filled, on a whole line.
+    Dot,
+    /// Hollow, on a dashed line.
+    Square,
+}
+
 pub type Point = (f64, f64);
 
 fn points(points: &[Point]) -> String {
@@ -50,15 +59,27 @@ impl Svg {
         self.push(format!(r#"<polygon points="{}" fill="{fill}"/>"#, points(corners)));
     }
 
-    pub fn polyline(&mut self, corners: &[Point], stroke: &str) {
+    pub fn polyline(&mut self, corners: &[Point], stroke: &str, mark: Mark) {
+        let dashes = match mark {
+            Mark::Dot => "",
+            Mark::Square => r#" stroke-dasharray="5 3""#,
+        };
         self.push(format!(
-            r#"<polyline points="{}" fill="none" stroke="{stroke}" stroke-width="2"/>"#,
+            r#"<polyline points="{}" fill="none" stroke="{stroke}" stroke-width="2"{dashes}/>"#,
             points(corners)
         ));
     }
 
-    pub fn dot(&mut self, at: Point, fill: &str) {
-        self.push(format!(r#"<circle cx="{:.1}" cy="{:.1}" r="2.5" fill="{fill}"/>"#, at.0, at.1));
+    pub fn mark(&mut self, at: Point, colour: &str, mark: Mark) {
+        let (x, y) = at;
+        self.push(match mark {
+            Mark::Dot => format!(r#"<circle cx="{x:.1}" cy="{y:.1}" r="3" fill="{colour}"/>"#),
+            Mark::Square => format!(
+                r##"<rect x="{:.1}" y="{:.1}" width="5" height="5" fill="#ffffff" stroke="{colour}" stroke-width="1.5"/>"##,
+                x - 2.5,
+                y - 2.5
+            ),
+        });
     }
 
     pub fn text(&mut self, at: Point, size: u32, anchor: Anchor, text: &str) {

@@ -62,10 +62,10 @@ pub fn hex_bytes(text: &[u8], most: usize) -> Option<Vec<u8>> {
     text.chunks(2).map(byte).collect()
 }
 
-/// A number of one or two decimal digits.
-pub fn limit_number(text: &[u8]) -> Option<u32> {
+/// A number of one to `most` decimal digits, at most nine.
+pub fn decimal_number(text: &[u8], most: usize) -> Option<u32> {
     let decimal = text.iter().all(|digit| digit.is_ascii_digit());
-    let count = text.len() == 1 || text.len() == 2;
+    let count = (1..=most).contains(&text.len());
     (decimal && count)
         .then(|| text.iter().fold(0, |number, digit| 10 * number + u32::from(digit - b'0')))
 }
@@ -103,9 +103,10 @@ mod tests {
             assert_eq!(hex_bytes(bad, 2), None);
         }
         assert_eq!(hex_number(b"FFFFFFFF", 1, 8), Some(0xFFFF_FFFF));
-        assert_eq!(limit_number(b"07"), Some(7));
+        assert_eq!(decimal_number(b"07", 2), Some(7));
+        assert_eq!(decimal_number(b"999999999", 9), Some(999_999_999));
         for bad in [&b""[..], b"024", b"+1", b"1A", b" 1"] {
-            assert_eq!(limit_number(bad), None);
+            assert_eq!(decimal_number(bad, 2), None);
         }
     }
 }

@@ -55,7 +55,7 @@ fn with_message(name: &[u8], m: &mut [u8], word: u32) {
 fn parity(field: &[u8]) {
     print::answer(division::parity_by_register(field));
     print::answer(division::parity_by_bytes(field));
-    print::answer(rows::parity_by_rows(field));
+    print::answer(division::parity_by_rows(field));
 }
 
 fn message(m: &[u8]) {

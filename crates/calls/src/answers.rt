@@ -1,6 +1,9 @@
 // What a line is answered, and its columns, each with a space in front of it.
 use division::Word;
 use encoder::Seal;
+use sensor::Correction;
+use sensor::Mark;
+use sensor::Verdict;
 use transponder::Reception;
 
 pub(crate) enum Answer {
@@ -8,6 +11,7 @@ pub(crate) enum Answer {
     Divided(Word),
     Encoded(Seal),
     Received(Reception),
+    Sensed(Verdict),
 }
 
 // Appends the columns; the message is the one after the call.
@@ -17,6 +21,7 @@ pub(crate) fn put(answer: Answer, m: &[u8], out: &mut [u8], taken: usize) -> usi
         Answer::Divided(a) => put_divided(a, out, taken),
         Answer::Encoded(a) => put_encoded(a, m, out, taken),
         Answer::Received(a) => put_received(a, out, taken),
+        Answer::Sensed(a) => put_sensed(a, m, out, taken),
     }
 }
 
@@ -49,8 +54,41 @@ fn put_word(answer: &[u8], w: u32, out: &mut [u8], taken: usize) -> usize {
     text::put_bytes(out, next, b" -")
 }
 
+fn put_sensed(answer: Verdict, m: &[u8], out: &mut [u8], taken: usize) -> usize {
+    match answer {
+        Verdict::Clean => put_message(b" clean - ", m, out, taken),
+        Verdict::Dense(window) => put_numbered(b" dense ", window, m, out, taken),
+        Verdict::NoFit => put_message(b" nofit - ", m, out, taken),
+        Verdict::Corrected(k) => put_corrected(k, m, out, taken),
+        Verdict::Refused(n) => put_refusal(n, m, out, taken),
+    }
+}
+
+// Window, bits changed and mark are one column, parted by commas.
+fn put_corrected(k: Correction, m: &[u8], out: &mut [u8], taken: usize) -> usize {
+    let mark = k.mark;
+    let named = text::put_bytes(out, taken, b" corrected ");
+    let window = text::put_decimal(out, named, k.window);
+    let comma = text::put_byte(out, window, b',');
+    let bits = text::put_decimal(out, comma, k.bits);
+    let next = put_mark(mark, out, bits);
+    put_message(b" ", m, out, next)
+}
+
+fn put_mark(mark: Mark, out: &mut [u8], taken: usize) -> usize {
+    match mark {
+        Mark::Sole => text::put_bytes(out, taken, b",sole"),
+        Mark::Several => text::put_bytes(out, taken, b",several"),
+    }
+}
+
 fn put_refusal(n: u32, m: &[u8], out: &mut [u8], taken: usize) -> usize {
-    let named = text::put_bytes(out, taken, b" refused ");
+    put_numbered(b" refused ", n, m, out, taken)
+}
+
+// An answer with a decimal number, and the message in the last column.
+fn put_numbered(answer: &[u8], n: u32, m: &[u8], out: &mut [u8], taken: usize) -> usize {
+    let named = text::put_bytes(out, taken, answer);
     let next = text::put_decimal(out, named, n);
     put_message(b" ", m, out, next)
 }

@@ -12,12 +12,20 @@ pub(crate) fn is_bytes(s: &[u8]) -> bool {
     }
 }
 
-// 1 to 8 capital hexadecimal digits.
-pub(crate) fn is_word(s: &[u8]) -> bool {
+// 1 to 8 capital hexadecimal digits: a number of 32 bits, so that one above FFFFFF can be refused.
+pub(crate) fn is_word_text(s: &[u8]) -> bool {
     if s.len() == 0 || 8 < s.len() {
         return false;
     }
     reading::all_hex(s)
+}
+
+// 1 to 9 decimal digits, a number of 30 bits at most.
+pub(crate) fn is_limit_text(s: &[u8]) -> bool {
+    if s.len() == 0 || 9 < s.len() {
+        return false;
+    }
+    reading::all_decimal(s)
 }
 
 pub(crate) fn is_bit(s: &[u8]) -> bool {

@@ -4,7 +4,8 @@ use crate::answers::Answer;
 use crate::answers::put;
 use crate::arguments::is_bit;
 use crate::arguments::is_bytes;
-use crate::arguments::is_word;
+use crate::arguments::is_word_text;
+use crate::sensing::sense;
 use division::Word;
 use reading::after;
 use reading::find;
@@ -33,13 +34,22 @@ fn answer_with(name: &[u8], arguments: &[u8], m: &mut [u8], out: &mut [u8], take
     put(made, m, out, taken)
 }
 
-// A call has one argument or two: no argument has a space, so a line with one space more is malformed.
+// A call has one argument, two, or the sensor's four: no argument has a space, so a line with one space more is
+// malformed.
 fn make(name: &[u8], arguments: &[u8], m: &mut [u8]) -> Answer {
     let middle = find(arguments, b' ');
     if middle < arguments.len() {
-        make_of_two(name, &arguments[0..middle], after(arguments, middle), m)
+        make_of_several(name, &arguments[0..middle], after(arguments, middle), m)
     } else {
         make_of_one(name, arguments, m)
+    }
+}
+
+fn make_of_several(name: &[u8], first: &[u8], others: &[u8], m: &mut [u8]) -> Answer {
+    if check::same(name, b"sensor") {
+        sense(first, others, m)
+    } else {
+        make_of_two(name, first, others, m)
     }
 }
 
@@ -52,7 +62,7 @@ fn make_of_one(name: &[u8], argument: &[u8], m: &[u8]) -> Answer {
             return Answer::Divided(division::parity_by_bytes(m));
         }
         if check::same(name, b"rows") {
-            return Answer::Divided(rows::parity_by_rows(m));
+            return Answer::Divided(division::parity_by_rows(m));
         }
     }
     make_of_message_or_word(name, argument, m)
@@ -65,7 +75,7 @@ fn make_of_message_or_word(name: &[u8], argument: &[u8], m: &[u8]) -> Answer {
     if check::same(name, b"address") {
         return if_bytes(argument, division::address_read(m));
     }
-    if is_word(argument) {
+    if is_word_text(argument) {
         return make_of_word(name, reading::hex_number(argument));
     }
     Answer::Malformed
@@ -94,7 +104,7 @@ fn make_of_two(name: &[u8], first: &[u8], second: &[u8], m: &mut [u8]) -> Answer
         return step(first, second);
     }
     if is_bytes(first) {
-        if is_word(second) {
+        if is_word_text(second) {
             return make_of_message(name, m, reading::hex_number(second));
         }
     }
@@ -102,7 +112,7 @@ fn make_of_two(name: &[u8], first: &[u8], second: &[u8], m: &mut [u8]) -> Answer
 }
 
 fn step(register: &[u8], bit: &[u8]) -> Answer {
-    if is_word(register) {
+    if is_word_text(register) {
         if is_bit(bit) {
             let one = check::same(bit, b"1");
             return Answer::Divided(division::register_step(reading::hex_number(register), one));

@@ -5,9 +5,9 @@ use Rattle.division.specs.Division.{generator, generatorPowers, reduce, divide,
 use Rattle.message.specs.Message.{number, field, parityField, formatNumber, firstBit, firstBitAgrees, isMessageLength, isFieldLength, isWord}
 use Rattle.division.specs.Answers.{parityAnswer}
 use Rattle.encoder.specs.Seals.{wordBytes, withParity, replyParity, interrogationParity, replySeal, interrogationSeal, sealOutcome, replyAfter, interrogationAfter}
-use Rattle.transponder.specs.Receptions.{reading, isReserved, receptionOutcome}
+use Rattle.transponder.specs.Receptions.{receptionOf, isReserved, receptionOutcome}
 use Rattle.conformance.specs.Bench.{benchTable, BenchHolds}
 
 pub bench-holds : BenchHolds
-unfolding BenchHolds benchTable polynomial downwards product generator generatorPowers reduce divide quotient remainder parity overlay addressRead number field parityField formatNumber firstBit firstBitAgrees isMessageLength isFieldLength isWord parityAnswer wordBytes withParity replyParity interrogationParity replySeal interrogationSeal sealOutcome replyAfter interrogationAfter reading isReserved receptionOutcome
+unfolding BenchHolds benchTable polynomial downwards product generator generatorPowers reduce divide quotient remainder parity overlay addressRead number field parityField formatNumber firstBit firstBitAgrees isMessageLength isFieldLength isWord parityAnswer wordBytes withParity replyParity interrogationParity replySeal interrogationSeal sealOutcome replyAfter interrogationAfter receptionOf isReserved receptionOutcome
 bench-holds = refl

@@ -1,39 +1,37 @@
 -- Demand 3, sentence by sentence: each follows from `ours-is-right` and `only-one-is-right`.
 use mathlib.Core.Path.{_≡_, refl, sym, ap, _∙_, subst}
 use mathlib.Core.Logic.{inl, inr}
-use mathlib.Core.List.{List, [], _∷_}
-use Prim.Native.Nat.{ℕ, _+_, _-_, _*_, _^_, _<_, _≤_}
-use native.Mathlib.Nat.{lt-of-lt-of-le}
+use mathlib.Core.List.{List}
+use Prim.Native.Nat.{ℕ, _-_, _*_, _^_, _<_, _≤_}
 use native.Mathlib.Omega.{arith}
 use lib.Bits.{bitXor}
 use lib.Count.{ones}
 use lib.ListN.{length}
-use lib.Pow.{pow-mono, shl-lt}
 use Rattle.division.specs.Division.{remainder, parity}
 use mathlib.Core.Bool.{true}
 use Rattle.message.specs.Message.{number, Bytes, field, isMessageLength, firstBitAgrees}
-use Rattle.division.specs.Answers.{Outcome}
-use Rattle.division.specs.Answers.Outcome.{refusal, answer}
+use Rattle.outcome.specs.Outcomes.{Outcome, done}
+use Rattle.outcome.proofs.Laws.{refusal-is-no-answer, same-answer}
+use Rattle.outcome.specs.Outcomes.Outcome.{refusal, answer}
 use Rattle.division.proofs.Laws.{xor-cancel-r}
-use Rattle.message.proofs.Laws.{message-length-ge}
+use Rattle.message.proofs.Laws.{message-length-ge, in-window-lt}
 use Rattle.encoder.specs.Seals.{withParity, sealOutcome, replyAfter}
 use Rattle.encoder.proofs.Laws.{was-accepted, reply-after, reply-is, reply-lt, sealed-length, sealed-bytes}
-use Rattle.sensor.specs.Changes.{lastWindow, place, Carries, InWindow, OnLow, Fit}
-use Rattle.sensor.specs.Verdicts.{inverted, sensorOutcome, sensorAfter}
-use Rattle.sensor.proofs.Laws.{Admitted, unrefused, after-refused, fit-is, inverted-number, inverted-bytes, inverted-length, inverted-by-number, sizes}
+use Rattle.message.specs.Bits.{lastWindow, inverted}
+use Rattle.division.specs.Division.{Carries}
+use Rattle.sensor.specs.Changes.{OnLow, Fit}
+use Rattle.sensor.specs.Verdicts.{soleMark, severalMark, cleanAnswer, denseAnswer, noFitAnswer, correctedAnswer, sensorOutcome, sensorAfter}
+use Rattle.message.proofs.Laws.{inverted-number, inverted-bytes, inverted-length, inverted-by-number}
+use Rattle.sensor.proofs.Laws.{Admitted, unrefused, after-refused, fit-is, sizes}
 use Rattle.conformance.specs.Sealing.{Message, ReplyCarries}
 use Rattle.conformance.specs.Bursts.{Burst}
-use Rattle.conformance.specs.Correcting.{Call, IsDense, LowestDense, NoneDense, LowestFit, OnlyChange, AnotherChange, Right, OursIsRight, OnlyOneIsRight, SaysClean, SaysDense, SaysNoFit, Correction, Corrects, OthersLeave, HitReply}
+use Rattle.conformance.specs.Correcting.{Judged, IsDense, LowestDense, NoneDense, LowestFit, OnlyChange, AnotherChange, Right, OursIsRight, OnlyOneIsRight, SaysClean, SaysDense, SaysNoFit, Correction, Corrects, OthersLeave, HitReply}
 use Rattle.conformance.specs.Correcting.Right.{clean, dense, noFit, sole, several}
 use Rattle.conformance.proofs.Right.{ours-is-right, only-one-is-right}
 use Rattle.conformance.proofs.Sealing.{reply-carries}
 use Rattle.conformance.proofs.Accepting.{hit-differs}
 
--- answers of different rows differ
-rows : {j k : ℕ} {us vs : List ℕ} → answer j us ≡ answer k vs → j ≡ k
-rows e = cc
-
-module _ (m c : List ℕ) (w l : ℕ) (call : Call m c w l) where
+module _ (m c : List ℕ) (w l : ℕ) (call : Judged m c w l) where
   O : Outcome
   O = sensorOutcome m c w l
 
@@ -49,14 +47,14 @@ module _ (m c : List ℕ) (w l : ℕ) (call : Call m c w l) where
 
 pub says-clean : SaysClean
 unfolding SaysClean
-says-clean m c w l call = (there (right m c w l call), λ h. is-right m c w l call (answer 1 []) m (clean h refl refl))
+says-clean m c w l call = (there (right m c w l call), λ h. is-right m c w l call (cleanAnswer) m (clean h refl refl))
   where
-    there : Right m c w l (sensorOutcome m c w l) (sensorAfter m c w l) → sensorOutcome m c w l ≡ answer 1 [] → Carries (number m) w
+    there : Right m c w l (sensorOutcome m c w l) (sensorAfter m c w l) → sensorOutcome m c w l ≡ cleanAnswer → Carries (number m) w
     there (clean h e i) o = h
-    there (dense n v h e i) o = absurd (omega (arith, rows (sym o ∙ e)))
-    there (noFit n h f e i) o = absurd (omega (arith, rows (sym o ∙ e)))
-    there (sole n h v d f q e i) o = absurd (omega (arith, rows (sym o ∙ e)))
-    there (several n h v d f q e i) o = absurd (omega (arith, rows (sym o ∙ e)))
+    there (dense n v h e i) o = absurd (omega (arith, same-answer (sym o ∙ e)))
+    there (noFit n h f e i) o = absurd (omega (arith, same-answer (sym o ∙ e)))
+    there (sole n h v d f q e i) o = absurd (omega (arith, same-answer (sym o ∙ e)))
+    there (several n h v d f q e i) o = absurd (omega (arith, same-answer (sym o ∙ e)))
 
 -- ---- dense
 
@@ -67,20 +65,20 @@ says-dense m c w l call n = (
     (λ t. (t .0, named (right m c w l call) (t .0) (t .1) .0)),
     (λ t. some (right m c w l call) (t .0) (t .1)),
   ),
-  λ v. (named (right m c w l call) v, λ h. is-right m c w l call (answer 2 (v ∷ [])) m (dense n v h refl refl)),
+  λ v. (named (right m c w l call) v, λ h. is-right m c w l call (denseAnswer v) m (dense n v h refl refl)),
 )
   where
-    named : Right m c w l (sensorOutcome m c w l) (sensorAfter m c w l) → (v : ℕ) → sensorOutcome m c w l ≡ answer 2 (v ∷ []) → LowestDense c l v
+    named : Right m c w l (sensorOutcome m c w l) (sensorAfter m c w l) → (v : ℕ) → sensorOutcome m c w l ≡ denseAnswer v → LowestDense c l v
     named (clean h e i) v o = absurd (n h)
     named (dense k u h e i) v o =
-        let q : answer 2 (u ∷ []) ≡ answer 2 (v ∷ []) = sym e ∙ o in
+        let q : denseAnswer u ≡ denseAnswer v = sym e ∙ o in
         let same : u ≡ v = cc in
         subst (LowestDense c l) same h
-    named (noFit k h f e i) v o = absurd (omega (arith, rows (sym o ∙ e)))
-    named (sole k h u d f q e i) v o = absurd (omega (arith, rows (sym o ∙ e)))
-    named (several k h u d f q e i) v o = absurd (omega (arith, rows (sym o ∙ e)))
+    named (noFit k h f e i) v o = absurd (omega (arith, same-answer (sym o ∙ e)))
+    named (sole k h u d f q e i) v o = absurd (omega (arith, same-answer (sym o ∙ e)))
+    named (several k h u d f q e i) v o = absurd (omega (arith, same-answer (sym o ∙ e)))
 
-    some : Right m c w l (sensorOutcome m c w l) (sensorAfter m c w l) → (v : ℕ) → IsDense c l v → (u : ℕ) × (sensorOutcome m c w l ≡ answer 2 (u ∷ []))
+    some : Right m c w l (sensorOutcome m c w l) (sensorAfter m c w l) → (v : ℕ) → IsDense c l v → (u : ℕ) × (sensorOutcome m c w l ≡ denseAnswer u)
     some (clean h e i) v d = absurd (n h)
     some (dense k u h e i) v d = (u, e)
     some (noFit k h f e i) v d = absurd (h v d)
@@ -91,31 +89,24 @@ says-dense m c w l call n = (
 
 pub says-no-fit : SaysNoFit
 unfolding SaysNoFit NoneDense LowestDense LowestFit
-says-no-fit m c w l call n k = (there (right m c w l call), λ h. is-right m c w l call (answer 3 []) m (noFit n k h refl refl))
+says-no-fit m c w l call n k = (there (right m c w l call), λ h. is-right m c w l call (noFitAnswer) m (noFit n k h refl refl))
   where
-    there : Right m c w l (sensorOutcome m c w l) (sensorAfter m c w l) → sensorOutcome m c w l ≡ answer 3 [] → (v d : ℕ) → Fit m c w v d → ⊥
+    there : Right m c w l (sensorOutcome m c w l) (sensorAfter m c w l) → sensorOutcome m c w l ≡ noFitAnswer → (v d : ℕ) → Fit m c w v d → ⊥
     there (clean h e i) o = absurd (n h)
     there (dense q v h e i) o = absurd (k v (h .0))
     there (noFit q h f e i) o = f
-    there (sole q h v d f r e i) o = absurd (omega (arith, rows (sym o ∙ e)))
-    there (several q h v d f r e i) o = absurd (omega (arith, rows (sym o ∙ e)))
+    there (sole q h v d f r e i) o = absurd (omega (arith, same-answer (sym o ∙ e)))
+    there (several q h v d f r e i) o = absurd (omega (arith, same-answer (sym o ∙ e)))
 
 -- ---- corrected
 
--- a change of a window is a number of the message's bits
-change-lt : (m c : List ℕ) (w v d : ℕ) → 3 ≤ length m → Fit m c w v d → d < 2 ^ (8 * length m)
-unfolding Fit InWindow
-change-lt m c w v d ge f =
-    subst (λ (x : ℕ). x < 2 ^ (8 * length m)) (sym (f .0 .4))
-    (lt-of-lt-of-le (shl-lt 24 (place m v) (f .0 .3)) (pow-mono {i = 24 + place m v} {j = 8 * length m} (omega arith)))
-
 carried : (m c : List ℕ) (w v d : ℕ) (after : List ℕ) → Bytes m → 3 ≤ length m → Fit m c w v d → after ≡ inverted m d → Carries (number after) w
-unfolding Carries Fit
+unfolding Fit
 carried m c w v d after hm ge f e =
-    ap (λ (t : List ℕ). remainder (number t)) e ∙ ap remainder (inverted-number m d hm (change-lt m c w v d ge f)) ∙ f .2
+    ap (λ (t : List ℕ). remainder (number t)) e ∙ ap remainder (inverted-number m d hm (in-window-lt m v d ge (f .0))) ∙ f .2
 
 pub corrects : Corrects
-unfolding Corrects Call NoneDense LowestDense LowestFit OnlyChange AnotherChange
+unfolding Corrects Judged NoneDense LowestDense LowestFit OnlyChange AnotherChange
 corrects m c w l call n k v d f = by (right m c w l call)
   where
     ok : Admitted (length m) (length c) w l
@@ -132,7 +123,7 @@ corrects m c w l call n k v d f = by (right m c w l call)
         record {
           window = u;
           change = x;
-          mark = 1;
+          mark = soleMark;
           answered = e;
           fits = g .0;
           lowest = g .1;
@@ -147,7 +138,7 @@ corrects m c w l call n k v d f = by (right m c w l call)
         record {
           window = u;
           change = x;
-          mark = 2;
+          mark = severalMark;
           answered = e;
           fits = g .0;
           lowest = g .1;
@@ -162,25 +153,25 @@ corrects m c w l call n k v d f = by (right m c w l call)
 -- ---- in every other answer no byte changes
 
 pub others-leave : OthersLeave
-unfolding OthersLeave Call
+unfolding OthersLeave Judged
 others-leave m c w l hm hc h = by (sensorOutcome m c w l) refl
   where
     row : (r : ℕ) (vs : List ℕ) → sensorOutcome m c w l ≡ answer r vs → Right m c w l (sensorOutcome m c w l) (sensorAfter m c w l) → sensorAfter m c w l ≡ m
     row r vs e (clean k f i) = i
     row r vs e (dense n v k f i) = i
     row r vs e (noFit n k g f i) = i
-    row r vs e (sole n k v d g q f i) = absurd (h (v ∷ ones d ∷ 1 ∷ []) f)
-    row r vs e (several n k v d g q f i) = absurd (h (v ∷ ones d ∷ 2 ∷ []) f)
+    row r vs e (sole n k v d g q f i) = absurd (h v (ones d) soleMark f)
+    row r vs e (several n k v d g q f i) = absurd (h v (ones d) severalMark f)
 
     by : (o : Outcome) → sensorOutcome m c w l ≡ o → sensorAfter m c w l ≡ m
     by (refusal n) e = after-refused m c w l n e
     by (answer r vs) e =
         row r vs e
-        (right m c w l (hm, hc, λ n q. let z : refusal n ≡ answer r vs = sym q ∙ e in let bad : _≡_ {A = ℕ} 0 1 = cc in omega arith))
+        (right m c w l (hm, hc, λ n q. refusal-is-no-answer (sym q ∙ e)))
 
 -- ---- a reply that was sealed and hit
 
-module _ (m c : List ℕ) (w l v d : ℕ) (hm : Bytes m) (e : sealOutcome m w ≡ answer 0 []) (b : Burst (replyAfter m w) v d) where
+module _ (m c : List ℕ) (w l v d : ℕ) (hm : Bytes m) (e : sealOutcome m w ≡ done) (b : Burst (replyAfter m w) v d) where
   abbrev pub sent : List ℕ
   sent = replyAfter m w
 
@@ -206,14 +197,12 @@ module _ (m c : List ℕ) (w l v d : ℕ) (hm : Bytes m) (e : sealOutcome m w �
   sent-large = subst (λ (n : ℕ). 3 ≤ n) (sym sent-length) large
 
   sent-carries : remainder (number sent) ≡ w
-  unfolding ReplyCarries Carries Message
+  unfolding ReplyCarries Message
   sent-carries = ap (λ (t : List ℕ). remainder (number t)) (reply-after m w e) ∙ reply-carries m w w (hm, ok-seal .0) (ok-seal .1) .1 refl
 
   small : d < 2 ^ (8 * length sent)
   unfolding Burst
-  small =
-      subst (λ (x : ℕ). x < 2 ^ (8 * length sent)) (sym (b .4))
-      (lt-of-lt-of-le (shl-lt 24 (place sent v) (b .3)) (pow-mono {i = 24 + place sent v} {j = 8 * length sent} (omega (arith, sent-large))))
+  small = in-window-lt sent v d sent-large b
 
   hit-number : number hit ≡ bitXor (number sent) d
   hit-number = inverted-number sent d sent-bytes small
@@ -222,12 +211,11 @@ module _ (m c : List ℕ) (w l v d : ℕ) (hm : Bytes m) (e : sealOutcome m w �
   hit-length = inverted-length sent d
 
   not-clean : Carries (number hit) w → ⊥
-  unfolding Carries
   not-clean h = hit-differs sent v d sent-bytes sent-large b (h ∙ sym sent-carries)
 
   -- the burst itself is a fit
   pub undone : OnLow c d → Fit hit c w v d
-  unfolding Fit InWindow Burst Carries
+  unfolding Fit Burst
   undone low =
       let lasts : lastWindow hit ≡ lastWindow sent = ap (λ (n : ℕ). 8 * n - 24) hit-length in (
         (
@@ -257,19 +245,19 @@ hit-reply m c w l v d hm e b low call =
     fit : Fit h c w v d
     fit = undone m c w l v d hm e b low
 
-    no-fit : Right h c w l (sensorOutcome h c w l) (sensorAfter h c w l) → sensorOutcome h c w l ≡ answer 3 [] → ⊥
-    no-fit (clean k f i) o = omega (arith, rows (sym o ∙ f))
-    no-fit (dense n x k f i) o = omega (arith, rows (sym o ∙ f))
+    no-fit : Right h c w l (sensorOutcome h c w l) (sensorAfter h c w l) → sensorOutcome h c w l ≡ noFitAnswer → ⊥
+    no-fit (clean k f i) o = omega (arith, same-answer (sym o ∙ f))
+    no-fit (dense n x k f i) o = omega (arith, same-answer (sym o ∙ f))
     no-fit (noFit n k g f i) o = g v d fit
-    no-fit (sole n k x y g q f i) o = omega (arith, rows (sym o ∙ f))
-    no-fit (several n k x y g q f i) o = omega (arith, rows (sym o ∙ f))
+    no-fit (sole n k x y g q f i) o = omega (arith, same-answer (sym o ∙ f))
+    no-fit (several n k x y g q f i) o = omega (arith, same-answer (sym o ∙ f))
 
-    back : Right h c w l (sensorOutcome h c w l) (sensorAfter h c w l) → (u n : ℕ) → sensorOutcome h c w l ≡ answer 4 (u ∷ n ∷ 1 ∷ []) → sensorAfter h c w l ≡ replyAfter m w
-    back (clean k f i) u n o = absurd (omega (arith, rows (sym o ∙ f)))
-    back (dense z x k f i) u n o = absurd (omega (arith, rows (sym o ∙ f)))
-    back (noFit z k g f i) u n o = absurd (omega (arith, rows (sym o ∙ f)))
+    back : Right h c w l (sensorOutcome h c w l) (sensorAfter h c w l) → (u n : ℕ) → sensorOutcome h c w l ≡ correctedAnswer u n soleMark → sensorAfter h c w l ≡ replyAfter m w
+    back (clean k f i) u n o = absurd (omega (arith, same-answer (sym o ∙ f)))
+    back (dense z x k f i) u n o = absurd (omega (arith, same-answer (sym o ∙ f)))
+    back (noFit z k g f i) u n o = absurd (omega (arith, same-answer (sym o ∙ f)))
     back (sole z k x y g q f i) u n o = i ∙ ap (inverted h) (sym (q v d fit)) ∙ restored m c w l v d hm e b
     back (several z k x y g q f i) u n o =
-        let marks : answer 4 (u ∷ n ∷ 1 ∷ []) ≡ answer 4 (x ∷ ones y ∷ 2 ∷ []) = sym o ∙ f in
+        let marks : correctedAnswer u n soleMark ≡ correctedAnswer x (ones y) severalMark = sym o ∙ f in
         let differ : _≡_ {A = ℕ} 1 2 = cc in
         absurd (omega arith)

@@ -1,5 +1,7 @@
 -- The theorems, in the order of the demands.
+pub mod Refusals
 pub mod Sealing
+pub mod Bursts
 pub mod Accepting
 pub mod Right
 pub mod Correcting

@@ -13,7 +13,6 @@ use Rattle.division.proofs.Laws.{xor-cancel, message-remainder, remainder-parts
 use Rattle.message.proofs.Laws.{message-length-ge, lt-word}
 use Rattle.encoder.specs.Seals.{withParity, interrogationSeal}
 use Rattle.encoder.proofs.Laws.{sealed-field, sealed-parity-number, sealed-number, own-parity, reply-is, interrogation-is, reply-lt, interrogation-after, accepted, was-accepted}
-use Rattle.sensor.specs.Changes.{Carries}
 use Rattle.conformance.specs.Sealing.{Message, coefficient, parityBit, remainderOfField, ReplyBits, InterrogationBits, ReplyCarries, CarriesReply, SealedIsRead, ReadIsSealed, SealedCallIsRead, ReadIsSealedCall}
 
 -- ---- the parity field, bit by bit
@@ -74,13 +73,13 @@ sealed-by-remainder m s hm e =
     ge = message-length-ge (length m) (hm .1)
 
 pub reply-carries : ReplyCarries
-unfolding ReplyCarries Carries
+unfolding ReplyCarries
 reply-carries m w v hm hw =
     let r = ap (λ (l : List ℕ). remainder (number l)) (reply-is m w) ∙ remainder-sealed m w hm hw in
     (λ e. sym e ∙ r, λ e. r ∙ sym e)
 
 pub carries-reply : CarriesReply
-unfolding CarriesReply Carries
+unfolding CarriesReply
 carries-reply m w hm e = sealed-by-remainder m w hm e ∙ sym (reply-is m w)
 
 pub sealed-read : (m : List ℕ) (a : ℕ) → Message m → a < 2 ^ 24 → addressRead (number (interrogationSeal m a)) ≡ a

@@ -1,4 +1,6 @@
--- The demands, each sentence as one statement; the theorems that prove them stand in proofs/ under the same names.
+-- The demands, each sentence as one statement; the theorems that prove them stand in proofs/ under the same names, in lower
+-- case with hyphens.
+pub mod Refusals
 pub mod Sealing
 pub mod Bursts
 pub mod Accepting

@@ -5,15 +5,15 @@ use Prim.Native.Nat.{ℕ, _-_, _*_, _/_, _%_, _^_, _<_, _≤_}
 use mathlib.Core.Path.{_≡_}
 use mathlib.Core.Logic.{_↔_}
 use mathlib.Core.Bool.{true}
-use mathlib.Core.List.{List, []}
+use mathlib.Core.List.{List}
 use lib.Bits.{bitXor}
 use lib.ListN.{length}
 use Rattle.division.specs.Polynomial.{product}
 use Rattle.division.specs.Division.{generator, remainder, addressRead, ReadsAs}
 use Rattle.message.specs.Message.{number, Bytes, field, parityField, isMessageLength, firstBitAgrees}
-use Rattle.division.specs.Answers.Outcome.{answer}
+use Rattle.outcome.specs.Outcomes.{done}
 use Rattle.encoder.specs.Seals.{replySeal, interrogationSeal, sealOutcome, interrogationAfter}
-use Rattle.sensor.specs.Changes.{Carries}
+use Rattle.division.specs.Division.{Carries}
 
 -- A message of 7 or 14 bytes, whatever stands in its parity field.
 unfoldable pub Message : List ℕ → Type 0
@@ -67,7 +67,7 @@ ReadIsSealed = (m : List ℕ) (a : ℕ) → Message m → a < 2 ^ 24 → ReadsAs
 -- a message for the address that it is read as leaves it as it is, unless its first bit contradicts its length.
 unfoldable pub SealedCallIsRead : Type 0
 SealedCallIsRead =
-    (m : List ℕ) (a : ℕ) → Bytes m → sealOutcome m a ≡ answer 0 [] → addressRead (number (interrogationAfter m a)) ≡ a
+    (m : List ℕ) (a : ℕ) → Bytes m → sealOutcome m a ≡ done → addressRead (number (interrogationAfter m a)) ≡ a
 
 unfoldable pub ReadIsSealedCall : Type 0
 ReadIsSealedCall =

@@ -5,5 +5,5 @@ pub mod Shifting
 pub mod Reading
 pub mod Table
 pub mod Fields
-pub mod Tests
+pub mod Answering
 pub mod Laws

@@ -2,19 +2,15 @@
 -- register run backwards. The idea: the remainder of x^k·a depends on the remainder of a alone, and multiplication by x
 -- can be undone modulo the generator, since the generator has the constant term 1.
 use mathlib.Core.Path.{_≡_, refl, sym, ap, ap₂, _∙_, subst}
-use Prim.Native.Nat.{ℕ, zero, suc, _+_, _-_, _*_, _/_, _%_, _^_, _≤_, _<_}
-use native.Mathlib.Nat.{le-of-suc-le-suc, not-suc-le-zero, mod-lt, zero-lt-suc, zero-mul, mul-one, one-mul, mul-assoc, mul-comm, pow-suc, div-add-mod', div-lt-iff-lt-mul, mul-mod-left, mul-div-cancel, mod-eq-of-lt, mod-one, sub-self, sub-zero, div-one, div-eq-of-lt}
-use native.Mathlib.Numerals.{one-add}
+use Prim.Native.Nat.{ℕ, zero, suc, _+_, _*_, _/_, _%_, _^_, _<_}
+use native.Mathlib.Nat.{le-of-suc-le-suc, not-suc-le-zero, mod-lt, zero-lt-suc, zero-mul, mul-one, one-mul, mul-assoc, mul-comm, pow-suc, div-add-mod', div-lt-iff-lt-mul, mul-mod-left, mul-div-cancel}
 use native.Mathlib.Omega.{arith}
 use lib.Dec.{lit<}
-use lib.Arith.{le-zero}
-use lib.Pow.{pow-pos, pow-add, mod-pow-add}
+use lib.Pow.{pow-add}
 use lib.Bits.{bitXor, xor-comm, xor-self, xor-zero-r, xor-lt, xor-mod, xor-shifted}
 use Rattle.division.specs.Polynomial.{polynomial}
 use Rattle.division.specs.Division.{generator, generatorPowers, reduce, remainder, shiftIn, backward, parity}
-use Rattle.division.specs.Ways.{rowSum}
 use Rattle.division.proofs.Xor.{xor-assoc, xor-cancel-r, xor-zero→eq, xor-shl}
-use Rattle.message.proofs.Laws.{next-bit}
 use Rattle.division.proofs.Dividing.{generator-is, remainder-once, remainder-zero, remainder-lt, remainder-small, remainder-xor, remainder-double, multiple, product-digit, product-zero}
 
 two-pos : zero < 2
@@ -72,32 +68,6 @@ shiftIn-bit r b v hr hb e =
     ∙ sym (remainder-once v (subst (λ (n : ℕ). n < 2 ^ 25) (sym e) (dividend-lt r b hr hb)))
     ∙ ap remainder e
 
--- n bits b one by one, the highest first, with `left` of them to come: nothing yet, one more, and all
-pub shiftIn-start : (n r b : ℕ) → r < 2 ^ 24 → b < 2 ^ n → r ≡ shiftIn (n - n) r (b / 2 ^ n)
-unfolding shiftIn
-shiftIn-start n r b hr hb =
-    sym
-    (ap₂ (λ (k c : ℕ). remainder (bitXor (r * 2 ^ k) (c * 2 ^ 24))) (sub-self n) (div-eq-of-lt hb)
-    ∙ ap remainder (xor-zero-r (r * 1) ∙ mul-one r) ∙ remainder-small r hr)
-
-down : (n e r b : ℕ) → e < n → shiftIn 1 (shiftIn (n - suc e) r (b / 2 ^ suc e)) (b / 2 ^ e % 2) ≡ shiftIn (n - e) r (b / 2 ^ e)
-down n e r b h =
-    shiftIn-more (n - suc e) 1 r (b / 2 ^ suc e) (b / 2 ^ e % 2) (mod-lt (b / 2 ^ e) two-pos)
-    ∙ ap₂ (λ (k c : ℕ). shiftIn k r c) (omega arith) (sym (next-bit b e))
-
-pub shiftIn-down : (n left r b : ℕ) → 0 < left → left ≤ n → shiftIn 1 (shiftIn (n - left) r (b / 2 ^ left)) (b / 2 ^ (left - 1) % 2) ≡ shiftIn (n - (left - 1)) r (b / 2 ^ (left - 1))
-shiftIn-down n zero r b h l = absurd (not-suc-le-zero h)
-shiftIn-down n (suc e) r b h l =
-    subst (λ (d : ℕ). shiftIn 1 (shiftIn (n - suc e) r (b / 2 ^ suc e)) (b / 2 ^ d % 2) ≡ shiftIn (n - d) r (b / 2 ^ d))
-    (sym less) (down n e r b l)
-  where
-    less : suc e - 1 ≡ e
-    less = omega arith
-
-pub shiftIn-end : (n left r b : ℕ) → left ≤ 0 → shiftIn (n - left) r (b / 2 ^ left) ≡ shiftIn n r b
-shiftIn-end n left r b h =
-    ap (λ (d : ℕ). shiftIn (n - d) r (b / 2 ^ d)) (le-zero h) ∙ ap₂ (λ (k c : ℕ). shiftIn k r c) (sub-zero n) (div-one b)
-
 -- R is what the register holds after the whole field, from 0
 pub parity-shiftIn : (k m : ℕ) → parity m ≡ shiftIn k 0 m
 unfolding parity shiftIn
@@ -117,35 +87,21 @@ pub parity-lt : (m : ℕ) → parity m < 2 ^ 24
 unfolding parity
 parity-lt m = remainder-lt (m * 2 ^ 24)
 
-pub parity-xor : (a b : ℕ) → parity (bitXor a b) ≡ bitXor (parity a) (parity b)
-unfolding parity
-parity-xor a b = ap remainder (xor-shl a b 24) ∙ remainder-xor (a * 2 ^ 24) (b * 2 ^ 24)
-
 pub shiftIn-lt : (k r b : ℕ) → shiftIn k r b < 2 ^ 24
 unfolding shiftIn
 shiftIn-lt k r b = remainder-lt (bitXor (r * 2 ^ k) (b * 2 ^ 24))
 
--- ---- R by rows: the law at k = 1, for one coefficient after the other
-
-pub bit-row : (t k : ℕ) → t < 2 → parity (t * 2 ^ k) ≡ t * remainder (2 ^ (24 + k))
-unfolding parity
-bit-row zero k h =
-    ap (λ (n : ℕ). remainder (n * 2 ^ 24)) (zero-mul (2 ^ k)) ∙ remainder-zero ∙ sym (zero-mul (remainder (2 ^ (24 + k))))
-bit-row (suc zero) k h =
-    ap remainder (shl-comm 1 k 24 ∙ shl-shl 1 24 k ∙ one-mul (2 ^ (24 + k))) ∙ sym (one-mul (remainder (2 ^ (24 + k))))
-bit-row (suc (suc t)) k h = absurd (not-suc-le-zero (le-of-suc-le-suc (le-of-suc-le-suc h)))
-
-parity-low : (k m : ℕ) → parity (m % 2 ^ k) ≡ rowSum k m
-unfolding rowSum
-parity-low zero m = ap parity (mod-one m) ∙ parity-zero
-parity-low (suc k) m =
-    ap parity (ap (λ (n : ℕ). m % 2 ^ n) (sym (one-add k)) ∙ mod-pow-add m 1 k)
-    ∙ ap parity (sym (xor-shifted (m / 2 ^ k % 2) k (m % 2 ^ k) (mod-lt m (pow-pos k))))
-    ∙ parity-xor (m / 2 ^ k % 2 * 2 ^ k) (m % 2 ^ k)
-    ∙ ap₂ bitXor (bit-row (m / 2 ^ k % 2) k (mod-lt (m / 2 ^ k) two-pos)) (parity-low k m)
-
-pub parity-by-rows : (k m : ℕ) → m < 2 ^ k → parity m ≡ rowSum k m
-parity-by-rows k m h = ap parity (sym (mod-eq-of-lt h)) ∙ parity-low k m
+-- one bit t, and k bits after it: the row of that bit, and R of the others
+pub parity-row : (t k b : ℕ) → t < 2 → b < 2 ^ k → parity (t * 2 ^ k + b) ≡ bitXor (t * remainder (2 ^ (24 + k))) (parity b)
+unfolding parity shiftIn
+parity-row t k b ht hb =
+    parity-extend t k b hb ∙ remainder-xor (remainder (t * 2 ^ 24) * 2 ^ k) (b * 2 ^ 24)
+    ∙ ap (λ (r : ℕ). bitXor r (remainder (b * 2 ^ 24))) (sym (remainder-shl (t * 2 ^ 24) k) ∙ row t ht)
+  where
+    row : (t : ℕ) → t < 2 → remainder (t * 2 ^ 24 * 2 ^ k) ≡ t * remainder (2 ^ (24 + k))
+    row zero h = ap remainder (zero-mul (2 ^ k)) ∙ remainder-zero ∙ sym (zero-mul (remainder (2 ^ (24 + k))))
+    row (suc zero) h = ap remainder (shl-shl 1 24 k ∙ one-mul (2 ^ (24 + k))) ∙ sym (one-mul (remainder (2 ^ (24 + k))))
+    row (suc (suc t)) h = absurd (not-suc-le-zero (le-of-suc-le-suc (le-of-suc-le-suc h)))
 
 -- ---- the register run backwards
 

@@ -29,6 +29,10 @@ quotient a = divide a .0
 unfoldable pub remainder : ℕ → ℕ
 remainder a = divide a .1
 
+-- A message carries the word W exactly when its remainder by G is W (document 01, 'Sensor'; ATC-117, 3.2).
+abbrev pub Carries : ℕ → ℕ → Type 0
+Carries u w = remainder u ≡ w
+
 -- The register of document 01, k bits at a step: from the register r and the next k bits b, the remainder of
 -- x^k·r + x^24·b. One bit at a step is k = 1; a step of the byte table is k = 8.
 unfoldable pub shiftIn : ℕ → ℕ → ℕ → ℕ

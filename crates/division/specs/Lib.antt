@@ -3,4 +3,5 @@ pub mod Polynomial
 pub mod Division
 pub mod Ways
 pub mod Answers
+-- What only private functions cite.
 pub mod Tables

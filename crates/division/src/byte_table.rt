@@ -1,7 +1,8 @@
 // R by the table of 256 remainders, one for each byte value.
 ghost use Prim.Native.Nat.{_<_, _^_};
 ghost use mathlib.Core.Path.{_≡_};
-ghost use Rattle.division.specs.Division.{shiftIn, parity};
+ghost use Rattle.division.specs.Division.{parity};
+ghost use Rattle.division.specs.Ways.{tableStep, tableWay};
 ghost use Rattle.message.specs.Message.{number};
 ghost use Rattle.division.specs.Tables.{IsByteTable};
 ghost use Rattle.division.specs.Answers.{said, parityAnswer};
@@ -272,7 +273,7 @@ const TABLE: [u32; 256] = [
 fn shift_byte_by_table(table: &[u32; 256], r: u32, byte: u8) -> u32
     requires { ⌜ IsByteTable (now table) ⌝ }
     requires { ⌜ r < 2 ^ 24 ⌝ }
-    ensures { λ s. ⌜ s ≡ shiftIn 8 r byte ⌝ }
+    ensures { λ s. ⌜ s ≡ tableStep r byte ⌝ }
 {
     let leaving = r / 65536;
     let staying = r % 65536 * 256;
@@ -281,10 +282,10 @@ fn shift_byte_by_table(table: &[u32; 256], r: u32, byte: u8) -> u32
     staying ^ table[at]
 }
 
-// R of a field of any length.
+// The register after a field of any length, from 0.
 fn by_byte_table(table: &[u32; 256], field: &[u8]) -> u32
     requires { ⌜ IsByteTable (now table) ⌝ }
-    ensures { λ r. ⌜ r ≡ parity (number (now (field .entry))) ⌝ }
+    ensures { λ r. ⌜ r ≡ tableWay 0 (now (field .entry)) ⌝ }
 {
     let mut state: u32 = 0;
     let mut i: usize = 0;
@@ -295,7 +296,7 @@ fn by_byte_table(table: &[u32; 256], field: &[u8]) -> u32
     state
 }
 
-// The same, with the table at hand: one copy of it for the whole field.
+// R of a field of any length, with the table at hand: one copy of it for the whole field.
 pub(crate) fn field_parity(field: &[u8]) -> u32
     ensures { λ r. ⌜ r ≡ parity (number (now (field .entry))) ⌝ }
 {

@@ -1,8 +1,8 @@
-// Division by the Mode S generator: the register, R of a field by it and by a table of bytes, the remainder of a message,
-// the address read from it, the address overlay, and the register run backwards.
+// Division by the Mode S generator: the register, R of a field in three ways, the remainder of a message, the address read
+// from it, the address overlay, and the register run backwards.
 //
 // Every public function takes any input and answers a Word: the value, or the number of the refusal. Its contract says
-// which, by a definition of specs/Answers.antt. Private workers take the table as a lent array, so that a call copies
+// which, by a definition of specs/Answers.antt. Private workers take a table as a lent array, so that a call copies
 // it at most once.
 ghost use Prim.Native.Nat.{_<_};
 ghost use mathlib.Core.Path.{_≡_};
@@ -11,6 +11,7 @@ mod byte_table;
 mod overlay;
 mod register;
 mod remainder;
+mod rows;
 
 pub use byte_table::parity_by_bytes;
 pub use overlay::uplink_overlay;
@@ -19,6 +20,7 @@ pub use register::register_back;
 pub use register::register_step;
 pub use remainder::address_read;
 pub use remainder::message_remainder;
+pub use rows::parity_by_rows;
 
 // A 24-bit word, or the number of the refusal.
 pub enum Word {

@@ -1,7 +1,9 @@
 // The register, one bit at a step; R of a field by it; and the register run backwards.
-ghost use Prim.Native.Nat.{_<_, _^_};
+ghost use Prim.Native.Nat.{_<_, _*_, _^_};
 ghost use mathlib.Core.Path.{_≡_};
-ghost use Rattle.division.specs.Division.{shiftIn, parity, backward};
+ghost use lib.ListN.{length};
+ghost use Rattle.division.specs.Division.{shiftIn, backward};
+ghost use Rattle.division.specs.Ways.{registerFrom, registerWay};
 ghost use Rattle.message.specs.Message.{number, bitOf};
 ghost use Rattle.division.specs.Answers.{said, registerAnswer, parityAnswer, backwardAnswer};
 use crate::GENERATOR;
@@ -43,7 +45,7 @@ pub(crate) fn shift_bit(r: u32, bit: u32) -> u32
 // The register after the eight bits of a byte, bit 1 first.
 fn shift_byte(r: u32, byte: u8) -> u32
     requires { ⌜ r < 2 ^ 24 ⌝ }
-    ensures { λ s. ⌜ s ≡ shiftIn 8 r byte ⌝ }
+    ensures { λ s. ⌜ s ≡ registerFrom r 8 byte ⌝ }
 {
     let bits = wide(byte);
     let mut state = r;
@@ -56,9 +58,9 @@ fn shift_byte(r: u32, byte: u8) -> u32
     state
 }
 
-// R of a field of any length.
+// The register after a field of any length, from 0.
 fn by_register(field: &[u8]) -> u32
-    ensures { λ r. ⌜ r ≡ parity (number (now (field .entry))) ⌝ }
+    ensures { λ r. ⌜ r ≡ registerWay (8 * length (now (field .entry))) (number (now (field .entry))) ⌝ }
 {
     let mut state: u32 = 0;
     let mut i: usize = 0;

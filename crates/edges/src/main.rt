@@ -34,6 +34,7 @@ fn filled(b: u8) -> [u8; 65537]
     [b; 65537]
 }
 
+// The buffer is the one that report::sift takes (report/src/lib.rt says how it comes to its size).
 fn show(name: &[u8], input: &[u8]) {
     let mut out = [0u8; 1572928];
     let size = report::sift(input, &mut out);

@@ -9,8 +9,9 @@ use lib.ListN.{length, length-append}
 use lib.Seq.{take-at, drop-at}
 use Rattle.division.specs.Division.{parity, overlay}
 use Rattle.message.specs.Message.{number, Bytes, field, parityField}
-use Rattle.division.specs.Answers.Outcome.{answer}
-use Rattle.division.proofs.Laws.{parity-lt, left-of}
+use Rattle.outcome.specs.Outcomes.{done}
+use Rattle.outcome.proofs.Laws.{left-of}
+use Rattle.division.proofs.Laws.{parity-lt}
 use Rattle.message.proofs.Laws.{number-three, number-append, number-message, number-injective, field-is, parityField-is, field-length, parityField-lt, bytes-take, bytes-append}
 use Rattle.encoder.specs.Seals.{wordBytes, withParity, replyParity, interrogationParity, replySeal, interrogationSeal, sealOutcome, replyAfter, interrogationAfter}
 
@@ -86,10 +87,10 @@ interrogation-is m a = refl
 pub reply-lt : (m : List ℕ) (w : ℕ) → w < 2 ^ 24 → bitXor (parity (number (field m))) w < 2 ^ 24
 reply-lt m w h = xor-lt 24 (parity (number (field m))) w (parity-lt (number (field m))) h
 
-pub reply-after : (m : List ℕ) (w : ℕ) → sealOutcome m w ≡ answer 0 [] → replyAfter m w ≡ replySeal m w
+pub reply-after : (m : List ℕ) (w : ℕ) → sealOutcome m w ≡ done → replyAfter m w ≡ replySeal m w
 unfolding replyAfter
 reply-after m w e = left-of _ _ m (replySeal m w) e
 
-pub interrogation-after : (m : List ℕ) (a : ℕ) → sealOutcome m a ≡ answer 0 [] → interrogationAfter m a ≡ interrogationSeal m a
+pub interrogation-after : (m : List ℕ) (a : ℕ) → sealOutcome m a ≡ done → interrogationAfter m a ≡ interrogationSeal m a
 unfolding interrogationAfter
 interrogation-after m a e = left-of _ _ m (interrogationSeal m a) e

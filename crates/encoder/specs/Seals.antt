@@ -5,8 +5,9 @@ use lib.Bits.{bitXor}
 use lib.ListN.{length}
 use Rattle.division.specs.Division.{parity, overlay}
 use Rattle.message.specs.Message.{number, field, isMessageLength, firstBitAgrees, isWord}
-use Rattle.division.specs.Answers.{Outcome, unless, left, wrongLength, wordTooLarge, firstBitContradicts}
-use Rattle.division.specs.Answers.Outcome.{refusal, answer}
+use Rattle.outcome.specs.Outcomes.{Outcome, done, unless, left}
+use Rattle.outcome.specs.Refusals.{wrongLength, wordTooLarge, firstBitContradicts}
+use Rattle.outcome.specs.Outcomes.Outcome.{refusal}
 use Rattle.encoder.specs.declared.Seal.{Seal}
 use Rattle.encoder.specs.declared.Seal.the-variants.{Sealed, Refused}
 
@@ -40,10 +41,10 @@ sealOutcome m w =
     unless (isMessageLength (length m)) wrongLength
     (unless (isWord w) wordTooLarge
     (unless (firstBitAgrees m) firstBitContradicts
-    (answer 0 [])))
+    done))
 
 abbrev pub said : Seal → Outcome
-said Sealed = answer 0 []
+said Sealed = done
 said (Refused n) = refusal n
 
 unfoldable pub replyAfter : List ℕ → ℕ → List ℕ

@@ -7,11 +7,13 @@ ghost use mathlib.Core.Path.{_≡_};
 ghost use mathlib.Core.Bool.{true};
 ghost use lib.Bits.{bitXor};
 ghost use lib.ListN.{length};
+ghost use Rattle.outcome.specs.Outcomes.{admission};
 ghost use Rattle.division.specs.Division.{parity, overlay};
 ghost use Rattle.message.specs.Message.{number, isMessageLength, isFieldLength};
 ghost use Rattle.message.specs.Message.{field as messageField};
 ghost use Rattle.encoder.specs.Seals.{said, wordBytes, withParity, sealOutcome, replyAfter, interrogationAfter};
 use division::Word;
+use outcome::Admission;
 
 // Sealed, or the number of the refusal.
 pub enum Seal {
@@ -26,8 +28,8 @@ pub fn seal_reply(m: &mut [u8], word: u32) -> Seal
 {
     let checked = check(m, word);
     match checked {
-        Seal::Refused(n) => Seal::Refused(n),
-        Seal::Sealed => {
+        Admission::Refused(n) => Seal::Refused(n),
+        Admission::Passed => {
             write_parity(m, word);
             Seal::Sealed
         }
@@ -41,8 +43,8 @@ pub fn seal_interrogation(m: &mut [u8], address: u32) -> Seal
 {
     let checked = check(m, address);
     match checked {
-        Seal::Refused(n) => Seal::Refused(n),
-        Seal::Sealed => {
+        Admission::Refused(n) => Seal::Refused(n),
+        Admission::Passed => {
             write_parity(m, address_overlay(address));
             Seal::Sealed
         }
@@ -50,21 +52,21 @@ pub fn seal_interrogation(m: &mut [u8], address: u32) -> Seal
 }
 
 // Whether a seal is refused, and by which row.
-fn check(m: &[u8], word: u32) -> Seal
-    ensures { λ r. ⌜ said r ≡ sealOutcome (now (m .entry)) word ⌝ }
+fn check(m: &[u8], word: u32) -> Admission
+    ensures { λ r. ⌜ admission r ≡ sealOutcome (now (m .entry)) word ⌝ }
 {
     if message::is_message_length(m.len()) {
         if message::is_word(word) {
             if message::first_bit_agrees(m) {
-                Seal::Sealed
+                Admission::Passed
             } else {
-                Seal::Refused(5)
+                Admission::Refused(5)
             }
         } else {
-            Seal::Refused(3)
+            Admission::Refused(3)
         }
     } else {
-        Seal::Refused(1)
+        Admission::Refused(1)
     }
 }
 

@@ -2,13 +2,13 @@
 use mathlib.Core.Path.{_≡_, refl, sym, ap, ap₂, _∙_, subst}
 use mathlib.Core.List.{List, [], _∷_, _++_}
 use Prim.Native.Nat.{ℕ, zero, suc, _+_, _*_, _-_, _/_, _%_, _^_, _≤_, _<_}
-use native.Mathlib.Nat.{le-of-eq, add-zero, zero-mul, zero-add, mul-one, mul-add, mul-assoc, add-assoc, add-mul, mul-suc, add-comm, div-add-mod'}
+use native.Mathlib.Nat.{add-zero, zero-mul, zero-add, mul-one, mul-add, mul-assoc, add-assoc, add-mul, mul-suc, add-comm, div-add-mod'}
 use native.Mathlib.Numerals.{add-one}
 use native.Mathlib.Omega.{arith}
 use lib.Dec.{lit<}
 use lib.Arith.{digits-lt}
 use lib.ListN.{length, getD, take, drop, take-append-drop, length-append, length-drop}
-use lib.Seq.{take-all, take-suc, getD-drop, length-take-le}
+use lib.Seq.{take-suc, getD-drop, length-take-le}
 use lib.Pow.{pow-add, shr-shr, high, low}
 use Rattle.message.specs.Message.{number, Bytes, field, parityField}
 
@@ -55,10 +55,6 @@ number-append-byte n b l =
     (ap (λ (p : ℕ). n * p + b * 2 ^ (8 * length l)) (sym (byte-more (length l)))
     ∙ ap (λ (p : ℕ). p + b * 2 ^ (8 * length l)) (sym (mul-assoc n (2 ^ 8) (2 ^ (8 * length l))))
     ∙ sym (add-mul (n * 2 ^ 8) b (2 ^ (8 * length l))))
-
--- the part of a list from a place to its end
-pub part-from : (a : ℕ) (l : List ℕ) → take (length l - a) (drop a l) ≡ drop a l
-part-from a l = take-all (length l - a) (drop a l) (le-of-eq (length-drop a l))
 
 -- one byte more
 pub number-next : (l : List ℕ) (i : ℕ) → i < length l → number (take (i + 1) l) ≡ number (take i l) * 2 ^ 8 + getD l i 0

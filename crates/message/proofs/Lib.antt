@@ -1,4 +1,5 @@
 -- The laws of a message.
 pub mod Bytes
-pub mod Tests
+pub mod Lengths
+pub mod Inverting
 pub mod Laws

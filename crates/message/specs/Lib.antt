@@ -1,2 +1,3 @@
 -- What a reader must believe of a message.
 pub mod Message
+pub mod Bits

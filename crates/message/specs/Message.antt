@@ -6,7 +6,8 @@ use lib.ListN.{length, getD, take, drop}
 use lib.Dec.{eqb, leb}
 
 -- The polynomial of a byte list of n bits: bit 1, the top bit of the first byte, stands for x^(n−1), bit i for x^(n−i)
--- (ATC-117, 2.1, 'the first transmitted message bit is the highest order coefficient').
+-- (ATC-117, 2.1: 'by convention, the first transmitted message bit is considered to be the highest order coefficient of the
+-- message polynomial').
 unfoldable pub number : List ℕ → ℕ
 number [] = 0
 number (b ∷ bs) = b * 2 ^ (8 * length bs) + number bs

@@ -1,3 +1,5 @@
--- The laws of reading text.
+-- The laws of text as it is read.
 pub mod Searching
+pub mod Splitting
 pub mod Values
+pub mod Laws

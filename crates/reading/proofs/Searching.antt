@@ -6,8 +6,8 @@ use native.Mathlib.Omega.{arith}
 use lib.ListN.{length, getD, drop}
 use lib.Dec.{eqb}
 use borrow.Author.Tests.{eq-eqb, ne-eqb}
-use Rattle.text.specs.Lines.{before}
-use Rattle.text.proofs.Parts.{picked, passed-over, next-byte, no-more}
+use Rattle.reading.specs.Lines.{before}
+use Rattle.text.proofs.Laws.{picked, passed-over, next-byte, no-more}
 
 pub found : (b : ℕ) (s : List ℕ) (i : ℕ) → i < length s → getD s i 0 ≡ b → length (before b (drop i s)) ≡ 0
 unfolding before

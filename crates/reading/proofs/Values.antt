@@ -1,34 +1,38 @@
 -- Digits, and the numbers and bytes that they write.
 use mathlib.Core.Path.{_≡_, refl, sym, ap, _∙_, subst}
-use mathlib.Core.Bool.{Bool, true, false, cond, _&&_, _||_, and-eq-true-iff, and-assoc, and-true, true≢false}
+use mathlib.Core.Bool.{Bool, true, false, cond, _&&_, _||_, and-eq-true-iff, and-assoc, and-true}
 use mathlib.Core.List.{List, [], _∷_}
 use Prim.Native.Nat.{ℕ, suc, _+_, _-_, _*_, _/_, _%_, _^_, _<_, _≤_}
 use native.Mathlib.Nat.{pow-suc, mod-mod, mod-eq-of-lt, div-add-mod, add-mul, mul-assoc, add-assoc, mul-add-mod-self-left, mul-le-mul-left, mul-one, one-mul, pow-le-pow-right}
 use native.Mathlib.Omega.{arith}
 use lib.ListN.{length, getD, drop}
-use lib.Dec.{leb}
-use borrow.Author.Tests.{leb-true}
-use Rattle.text.specs.Digits.{hexNumber, decimalNumber, isDecimalDigit, isHexDigit, digitValue, all, numberAfter, bytesOf}
-use Rattle.text.proofs.Parts.{picked, passed-over, next-byte, no-more}
+use lib.Dec.{leb, eqb}
+use borrow.Author.Tests.{leb-true, ne-eqb}
+use Rattle.text.specs.Ascii.{space}
+use Rattle.reading.specs.Lines.{before, columns}
+use Rattle.reading.specs.Digits.{hexNumber, decimalNumber, isDecimalDigit, isHexDigit, digitValue, all, numberAfter, hexBytes}
+use Rattle.reading.proofs.Splitting.{whole-column}
+use Rattle.outcome.proofs.Laws.{never}
+use Rattle.text.proofs.Laws.{picked, passed-over, next-byte, no-more}
 
 -- ---- one digit
 
-pub decimal-range : (b : ℕ) → isDecimalDigit b ≡ true → (48 ≤ b) × (b ≤ 57)
+decimal-range : (b : ℕ) → isDecimalDigit b ≡ true → (48 ≤ b) × (b ≤ 57)
 unfolding isDecimalDigit
 decimal-range b e =
     let both = and-eq-true-iff (leb 48 b) (leb b 57) .0 e in
     (leb-true 48 b (both .0), leb-true b 57 (both .1))
 
 -- a digit that is not decimal is a letter
-pub letter-range : (b : ℕ) → isDecimalDigit b ≡ false → isHexDigit b ≡ true → (65 ≤ b) × (b ≤ 70)
+letter-range : (b : ℕ) → isDecimalDigit b ≡ false → isHexDigit b ≡ true → (65 ≤ b) × (b ≤ 70)
 unfolding isHexDigit
 letter-range b n e =
     let both = and-eq-true-iff (leb 65 b) (leb b 70) .0 (ap (λ (t : Bool). t || (leb 65 b && leb b 70)) (sym n) ∙ e) in
     (leb-true 65 b (both .0), leb-true b 70 (both .1))
 
-decimal-is-hex : (b : ℕ) → isDecimalDigit b ≡ true → true ≡ isHexDigit b
+decimal-is-hex : (b : ℕ) → isDecimalDigit b ≡ true → isHexDigit b ≡ true
 unfolding isHexDigit
-decimal-is-hex b e = ap (λ (t : Bool). t || (leb 65 b && leb b 70)) (sym e)
+decimal-is-hex b e = ap (λ (t : Bool). t || (leb 65 b && leb b 70)) e
 
 pub value-digit : (b : ℕ) → isHexDigit b ≡ true → b % 16 + b / 64 * 9 ≡ digitValue b
 unfolding digitValue
@@ -44,7 +48,7 @@ unfolding digitValue
 value-none b h = by (isDecimalDigit b) refl
   where
     by : (t : Bool) → isDecimalDigit b ≡ t → 0 ≡ cond (isDecimalDigit b) (b - 48) (cond (isHexDigit b) (b - 55) 0)
-    by true e = absurd (true≢false (decimal-is-hex b e ∙ h))
+    by true e = absurd (never (decimal-is-hex b e) h)
     by false e = sym (passed-over (isDecimalDigit b) (b - 48) (cond (isHexDigit b) (b - 55) 0) e ∙ passed-over (isHexDigit b) (b - 55) 0 h)
 
 pub digit-value-lt : (b : ℕ) → digitValue b < 16
@@ -63,16 +67,30 @@ digit-value-lt b = decimal (isDecimalDigit b) refl
 
 module _ (test : ℕ → Bool) (s : List ℕ) (i : ℕ) where
   -- one byte more
-  pub all-more : i < length s → (so-far here : Bool) → here ≡ test (getD s i 0)
+  pub one-more-tested : i < length s → (so-far here : Bool) → here ≡ test (getD s i 0)
       → ((so-far && here) && all test (drop (i + 1) s)) ≡ (so-far && all test (drop i s))
   unfolding all
-  all-more h so-far here e =
+  one-more-tested h so-far here e =
       and-assoc so-far here (all test (drop (i + 1) s))
       ∙ ap (λ (t : Bool). so-far && t) (ap (λ (t : Bool). t && all test (drop (i + 1) s)) e ∙ sym (ap (all test) (next-byte s i h)))
 
-  pub all-done : length s ≤ i → (so-far : Bool) → so-far ≡ (so-far && all test (drop i s))
+  pub all-tested : length s ≤ i → (so-far : Bool) → so-far ≡ (so-far && all test (drop i s))
   unfolding all
-  all-done h so-far = sym (ap (λ (l : List ℕ). so-far && all test l) (no-more s i h) ∙ and-true so-far)
+  all-tested h so-far = sym (ap (λ (l : List ℕ). so-far && all test l) (no-more s i h) ∙ and-true so-far)
+
+-- ---- a text of decimal digits is one column, since no digit is a space
+
+no-space : (s : List ℕ) → all isDecimalDigit s ≡ true → length (before space s) ≡ length s
+unfolding all before
+no-space [] e = refl
+no-space (b ∷ s) e =
+    let both = and-eq-true-iff (isDecimalDigit b) (all isDecimalDigit s) .0 e in
+    let other : b ≡ space → ⊥ = λ f. omega (arith, decimal-range b (both .0)) in
+    ap length (passed-over (eqb b space) [] (b ∷ before space s) (ne-eqb b space other))
+    ∙ ap suc (no-space s (both .1))
+
+pub decimal-column : (s : List ℕ) → all isDecimalDigit s ≡ true → columns s ≡ s ∷ []
+decimal-column s e = whole-column s (length s) (sym (no-space s e)) (omega arith)
 
 -- ---- numbers, from a place on
 
@@ -129,24 +147,24 @@ decimalNumber-whole s h = mod-eq-of-lt (number-fits 10 s (omega arith) h)
 -- ---- pairs of digits, from a place on
 
 pub next-pair : (s : List ℕ) (i : ℕ) → i + 1 < length s
-    → bytesOf (drop i s) ≡ (digitValue (getD s i 0) * 16 + digitValue (getD s (i + 1) 0)) ∷ bytesOf (drop (i + 2) s)
-unfolding bytesOf
+    → hexBytes (drop i s) ≡ (digitValue (getD s i 0) * 16 + digitValue (getD s (i + 1) 0)) ∷ hexBytes (drop (i + 2) s)
+unfolding hexBytes
 next-pair s i h =
     let e : (i + 1) + 1 ≡ i + 2 = omega arith in
-    ap bytesOf (next-byte s i (omega arith) ∙ ap (λ (l : List ℕ). getD s i 0 ∷ l) (next-byte s (i + 1) h ∙ ap (λ (n : ℕ). getD s (i + 1) 0 ∷ drop n s) e))
+    ap hexBytes (next-byte s i (omega arith) ∙ ap (λ (l : List ℕ). getD s i 0 ∷ l) (next-byte s (i + 1) h ∙ ap (λ (n : ℕ). getD s (i + 1) 0 ∷ drop n s) e))
 
-pub no-pair : (s : List ℕ) (i : ℕ) → i ≤ length s → length s ≤ i + 1 → bytesOf (drop i s) ≡ []
-unfolding bytesOf
+pub no-pair : (s : List ℕ) (i : ℕ) → i ≤ length s → length s ≤ i + 1 → hexBytes (drop i s) ≡ []
+unfolding hexBytes
 no-pair s i h k = short (drop i s) (omega (arith, lib.ListN.length-drop i s))
   where
-    short : (l : List ℕ) → length l ≤ 1 → bytesOf l ≡ []
+    short : (l : List ℕ) → length l ≤ 1 → hexBytes l ≡ []
     short [] k = refl
     short (a ∷ []) k = refl
     short (a ∷ b ∷ l) k = absurd (omega arith)
 
 -- half as many bytes as digits
-pub bytesOf-length : (s : List ℕ) → length (bytesOf s) ≡ length s / 2
-unfolding bytesOf
-bytesOf-length [] = refl
-bytesOf-length (a ∷ []) = refl
-bytesOf-length (a ∷ b ∷ s) = omega (arith, bytesOf-length s)
+pub hexBytes-length : (s : List ℕ) → length (hexBytes s) ≡ length s / 2
+unfolding hexBytes
+hexBytes-length [] = refl
+hexBytes-length (a ∷ []) = refl
+hexBytes-length (a ∷ b ∷ s) = omega (arith, hexBytes-length s)

@@ -1,14 +1,14 @@
 // The bytes that pairs of digits write.
 ghost use mathlib.Core.Path.{_≡_};
 ghost use Prim.Native.Nat.{_+_, _*_};
-ghost use Rattle.text.specs.Digits.{digitValue, bytesOf};
+ghost use Rattle.reading.specs.Digits.{digitValue, hexBytes};
 ghost use Rattle.text.specs.Output.{append};
 use crate::digits::digit_value;
 use text::put_byte;
 
 // The bytes go to the start of the buffer; the answer is their number.
 pub fn hex_bytes(s: &[u8], out: &mut [u8]) -> usize
-    ensures { λ r. ⌜ (now (out .exit), r) ≡ append (now (out .entry), 0) (bytesOf (now (s .entry))) ⌝ }
+    ensures { λ r. ⌜ (now (out .exit), r) ≡ append (now (out .entry), 0) (hexBytes (now (s .entry))) ⌝ }
 {
     let mut taken: usize = 0;
     let mut i: usize = 0;

@@ -1,6 +1,6 @@
 // Digits: tests, and the values of digits.
 ghost use mathlib.Core.Path.{_≡_};
-ghost use Rattle.text.specs.Digits.{isDecimalDigit, isHexDigit, digitValue, all};
+ghost use Rattle.reading.specs.Digits.{isDecimalDigit, isHexDigit, digitValue, all};
 
 // 0 to 9.
 pub(crate) fn is_decimal_digit(b: u8) -> bool

@@ -1,7 +1,7 @@
 // Text as programs read it: where a line or a column ends, and what digits write.
 //
-// Every public function takes any input. Its contract gives the result, and a lent buffer, by a definition of the crate
-// `text`.
+// Every public function takes any input. Its contract gives the result by a definition of specs/, and a lent buffer by
+// what is appended to it (`append` of the crate `text`).
 mod bytes;
 mod digits;
 mod lines;

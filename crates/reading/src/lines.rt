@@ -2,7 +2,7 @@
 ghost use Prim.Native.Nat.{_+_, _≤_};
 ghost use mathlib.Core.Path.{_≡_};
 ghost use lib.ListN.{length, drop};
-ghost use Rattle.text.specs.Lines.{before};
+ghost use Rattle.reading.specs.Lines.{before};
 
 // The number of bytes in front of the first b, or the length where there is none. The second promise follows from the
 // first: with it a caller takes `&s[..r]` without a proof.

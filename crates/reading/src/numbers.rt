@@ -1,7 +1,7 @@
 // The numbers that digits write.
 ghost use mathlib.Core.Path.{_≡_};
 ghost use Prim.Native.Nat.{_+_, _*_, _%_, _^_, _≤_, _<_};
-ghost use Rattle.text.specs.Digits.{digitValue, numberAfter, hexNumber, decimalNumber};
+ghost use Rattle.reading.specs.Digits.{digitValue, numberAfter, hexNumber, decimalNumber};
 use crate::digits::digit_value;
 
 // The number of a text of hexadecimal digits, its low 32 bits: the whole number where there are at most 8 digits.

@@ -8,37 +8,32 @@ use lib.Seq.{length-take-le, drop-drop}
 use lib.Dec.{leb}
 use borrow.Author.Tests.{le-leb, lt-leb}
 use mathlib.Core.Bool.{true, false}
-use Rattle.text.specs.Quoted.{ascii}
-use Rattle.text.specs.Lines.{lineFeed, space, before, columns, lines}
+use Rattle.text.specs.Ascii.{ascii, lineFeed, space}
+use Rattle.reading.specs.Lines.{before, columns, lines}
 use Rattle.text.specs.Output.{Place, append}
-use Rattle.text.specs.Digits.{decimalText, bytesOf, hexNumber, decimalNumber}
-use Rattle.text.proofs.Spelling.{decimal-length}
-use Rattle.text.proofs.Parts.{part-from, no-more, picked, passed-over}
-use Rattle.text.proofs.Splitting.{before-le, split-column, whole-column, split-line}
+use Rattle.text.specs.Digits.{decimalText}
+use Rattle.reading.specs.Digits.{hexBytes, hexNumber, decimalNumber}
+use Rattle.outcome.proofs.Laws.{part-from}
+use Rattle.text.proofs.Laws.{decimal-length, picked, passed-over}
+use Rattle.reading.proofs.Laws.{before-le, split-column, whole-column, split-line, no-line-left}
 use Rattle.request.specs.Requests.{wellFormed}
 use Rattle.verdicts.specs.Columns.{spaced}
-use Rattle.report.specs.Sift.{requestColumns, malformed, answerColumns, answerText, outputLine, outputLines, header, siftOutput}
+use Rattle.verdicts.proofs.Laws.{spaced-nil, spaced-cons, spaced-append}
+use Rattle.report.specs.Sift.{lineEnd, requestColumns, malformed, answerColumns, answerText, outputLine, outputLines, header, siftOutput}
 use Rattle.report.proofs.Forms.{well-formed-columns, ill-formed-columns}
 
 -- ---- the message after a verdict, and the line feed
 
-spaced-append : (cs ds : List (List ℕ)) → spaced (cs ++ ds) ≡ spaced cs ++ spaced ds
-unfolding spaced
-spaced-append [] ds = refl
-spaced-append (c ∷ cs) ds =
-    ap (λ (t : List ℕ). (space ∷ c) ++ t) (spaced-append cs ds) ∙ sym (append-assoc (space ∷ c) (spaced cs) (spaced ds))
-
-pub message-text : (cs : List (List ℕ)) (t : List ℕ)
-    → spaced cs ++ (space ∷ []) ++ t ++ (lineFeed ∷ []) ≡ spaced (cs ++ t ∷ []) ++ lineFeed ∷ []
-unfolding spaced
-message-text cs t =
+pub called-text : (cs : List (List ℕ)) (t : List ℕ)
+    → spaced cs ++ (space ∷ []) ++ t ++ (lineFeed ∷ []) ≡ lineEnd (cs ++ t ∷ [])
+called-text cs t =
     ap (λ (u : List ℕ). u ++ lineFeed ∷ [])
     (append-assoc (spaced cs) (space ∷ []) t
-    ∙ ap (λ (u : List ℕ). spaced cs ++ (space ∷ u)) (sym (append-nil t))
+    ∙ ap (λ (u : List ℕ). spaced cs ++ u) (sym (rw (spaced-cons, spaced-nil) (append-nil (space ∷ t))))
     ∙ sym (spaced-append cs (t ∷ [])))
 
-pub message-length : (v t : List ℕ) → length v ≤ 40 → length t ≤ 28 → length (v ++ (space ∷ []) ++ t ++ (lineFeed ∷ [])) ≤ 70
-message-length v t h k =
+pub called-length : (v t : List ℕ) → length v ≤ 40 → length t ≤ 28 → length (v ++ (space ∷ []) ++ t ++ (lineFeed ∷ [])) ≤ 70
+called-length v t h k =
     omega (
       arith,
       length-append v (space ∷ []),
@@ -50,29 +45,28 @@ message-length v t h k =
 
 -- the text of a request, its parts replaced by equal ones
 pub same-request : (m m′ c c′ : List ℕ) (w w′ l l′ : ℕ) → m ≡ m′ → c ≡ c′ → w ≡ w′ → l ≡ l′
-    → spaced (requestColumns m c w l) ++ lineFeed ∷ [] ≡ spaced (requestColumns m′ c′ w′ l′) ++ lineFeed ∷ []
+    → lineEnd (requestColumns m c w l) ≡ lineEnd (requestColumns m′ c′ w′ l′)
 same-request m m′ c c′ w w′ l l′ em ec ew el =
-    ap (λ (x : List ℕ). spaced (requestColumns x c w l) ++ lineFeed ∷ []) em
-    ∙ ap (λ (x : List ℕ). spaced (requestColumns m′ x w l) ++ lineFeed ∷ []) ec
-    ∙ ap (λ (x : ℕ). spaced (requestColumns m′ c′ x l) ++ lineFeed ∷ []) ew
-    ∙ ap (λ (x : ℕ). spaced (requestColumns m′ c′ w′ x) ++ lineFeed ∷ []) el
+    ap (λ (x : List ℕ). lineEnd (requestColumns x c w l)) em
+    ∙ ap (λ (x : List ℕ). lineEnd (requestColumns m′ x w l)) ec
+    ∙ ap (λ (x : ℕ). lineEnd (requestColumns m′ c′ x l)) ew
+    ∙ ap (λ (x : ℕ). lineEnd (requestColumns m′ c′ w′ x)) el
 
 pub malformed-text : ascii " malformed - - - -\n" ≡ answerText []
-unfolding answerText answerColumns spaced malformed
-malformed-text = refl
+unfolding answerText answerColumns malformed
+malformed-text = simp (spaced-cons, spaced-nil)
 
 pub malformed-length : length (answerText []) ≡ 19
-unfolding answerText answerColumns spaced malformed
-malformed-length = refl
+malformed-length = sym (ap length malformed-text)
 
 pub well-formed-text : (m c w l : List ℕ) → wellFormed m c w l ≡ true
-    → spaced (requestColumns (bytesOf m) (bytesOf c) (hexNumber w) (decimalNumber l)) ++ lineFeed ∷ [] ≡ answerText (m ∷ c ∷ w ∷ columns l)
+    → lineEnd (requestColumns (hexBytes m) (hexBytes c) (hexNumber w) (decimalNumber l)) ≡ answerText (m ∷ c ∷ w ∷ columns l)
 unfolding answerText
-well-formed-text m c w l e = ap (λ (cs : List (List ℕ)). spaced cs ++ lineFeed ∷ []) (sym (well-formed-columns m c w l e))
+well-formed-text m c w l e = ap (λ (cs : List (List ℕ)). lineEnd cs) (sym (well-formed-columns m c w l e))
 
 pub ill-formed-text : (m c w l : List ℕ) → wellFormed m c w l ≡ false → answerText [] ≡ answerText (m ∷ c ∷ w ∷ columns l)
 unfolding answerText answerColumns
-ill-formed-text m c w l e = ap (λ (cs : List (List ℕ)). spaced cs ++ lineFeed ∷ []) (sym (ill-formed-columns m c w l e))
+ill-formed-text m c w l e = ap (λ (cs : List (List ℕ)). lineEnd cs) (sym (ill-formed-columns m c w l e))
 
 -- one, two and three columns are too few
 pub too-few-1 : (a : List ℕ) → answerText [] ≡ answerText (a ∷ [])
@@ -87,7 +81,8 @@ pub too-few-3 : (a b c : List ℕ) → answerText [] ≡ answerText (a ∷ b ∷
 unfolding answerText answerColumns
 too-few-3 a b c = refl
 
--- ---- one column more: F is the text that the columns found so far make with those still to be found, q the place after it
+-- ---- one column more: F is the text that the columns found so far make with those still to be found, q the place after it.
+-- The text has at most 19 bytes, as a malformed line's answer has, and 24 for each byte left (src/lib.rt).
 
 module _ (F : List (List ℕ) → List ℕ) (start q : Place) (s : List ℕ) (k : ℕ) (e : k ≡ length (before space s)) where
   pub column-found : (rest : List ℕ) → k < length s → rest ≡ drop (k + 1) s
@@ -112,7 +107,7 @@ front-short s k h = omega (arith, length-take-le k s (omega arith))
 pub rest-short : (s rest : List ℕ) (a : ℕ) → rest ≡ drop a s → length rest ≤ length s
 rest-short s rest a e = omega (arith, ap length e, length-drop a s)
 
--- ---- output lines
+-- ---- output lines: of a number of at most 5 digits and an answer, so of 24 bytes for each byte and for the line feed
 
 pub line-length : (n : ℕ) (line : List ℕ) → n ≤ 99999 → length (answerText (columns line)) ≤ 19 + 24 * length line
     → length (outputLine n line) ≤ 24 * (length line + 1)
@@ -128,7 +123,7 @@ pub next-line : (input : List ℕ) (at k n : ℕ) → at < length input → k �
 unfolding outputLines
 next-line input at k n h e =
     let rest : List ℕ = drop at input in
-    let part : take (length input - at) rest ≡ rest = part-from input at in
+    let part : take (length input - at) rest ≡ rest = part-from at input in
     let some : 0 < length rest = omega (arith, length-drop at input) in
     let sum : at + (k + 1) ≡ at + k + 1 = omega arith in
     ap (outputLines n) (split-line rest k (e ∙ ap (λ (l : List ℕ). length (before lineFeed l)) part) some)
@@ -137,14 +132,14 @@ next-line input at k n h e =
     (drop-drop (k + 1) at input ∙ ap (λ (j : ℕ). drop j input) sum)
 
 pub no-line : (input : List ℕ) (at n : ℕ) → length input ≤ at → outputLines n (lines (drop at input)) ≡ []
-unfolding outputLines lines
-no-line input at n h = ap (λ (l : List ℕ). outputLines n (lines l)) (no-more input at h)
+unfolding outputLines
+no-line input at n h = ap (outputLines n) (no-line-left input at h)
 
 -- the place found lies within the input
 pub line-within : (input : List ℕ) (at k : ℕ) → at < length input → k ≡ length (before lineFeed (take (length input - at) (drop at input)))
     → at + k ≤ length input
 line-within input at k h e =
-    omega (arith, before-le lineFeed (take (length input - at) (drop at input)), ap length (part-from input at), length-drop at input)
+    omega (arith, before-le lineFeed (take (length input - at) (drop at input)), ap length (part-from at input), length-drop at input)
 
 pub line-taken : (input : List ℕ) (at k : ℕ) → k ≡ length (before lineFeed (take (length input - at) (drop at input)))
     → k ≡ length (take k (take (length input - at) (drop at input)))
@@ -166,7 +161,7 @@ output-too-long input h =
     ap (λ (t : List ℕ). header ++ t)
     (sym (passed-over (leb (length input) 65536) (outputLines 1 (lines input)) (ascii "too long\n") (lt-leb (length input) 65536 h)))
 
--- 37 bytes of header, and at most 24 for each of at most 65,537
+-- 37 bytes of header and 24 * 65,537 are 1,572,925; 1,572,928 is the next multiple of 64 (src/lib.rt)
 pub output-length : (input : List ℕ) → length input ≤ 65536 → length (outputLines 1 (lines input)) ≤ 24 * (length input + 1)
     → length (siftOutput input) ≤ 1572928
 output-length input h k =

@@ -6,9 +6,10 @@ use mathlib.Core.List.{List, [], _∷_, _++_}
 use mathlib.Core.Bool.{cond}
 use lib.ListN.{length}
 use lib.Dec.{leb}
-use Rattle.text.specs.Quoted.{ascii}
-use Rattle.text.specs.Lines.{lines, columns, lineFeed}
-use Rattle.text.specs.Digits.{bytesOf, hexNumber, decimalNumber, hexText, decimalText}
+use Rattle.text.specs.Ascii.{ascii, lineFeed}
+use Rattle.reading.specs.Lines.{lines, columns}
+use Rattle.text.specs.Digits.{hexText, decimalText}
+use Rattle.reading.specs.Digits.{hexBytes, hexNumber, decimalNumber}
 use Rattle.sensor.specs.Verdicts.{sensorOutcome, sensorAfter}
 use Rattle.request.specs.Requests.{wellFormed}
 use Rattle.verdicts.specs.Columns.{outcomeColumns, lacking, spaced}
@@ -30,7 +31,7 @@ answerColumns (m ∷ []) = malformed
 answerColumns (m ∷ c ∷ []) = malformed
 answerColumns (m ∷ c ∷ w ∷ []) = malformed
 answerColumns (m ∷ c ∷ w ∷ l ∷ []) =
-    cond (wellFormed m c w l) (requestColumns (bytesOf m) (bytesOf c) (hexNumber w) (decimalNumber l)) malformed
+    cond (wellFormed m c w l) (requestColumns (hexBytes m) (hexBytes c) (hexNumber w) (decimalNumber l)) malformed
 answerColumns (m ∷ c ∷ w ∷ l ∷ x ∷ xs) = malformed
 
 -- ---- the output

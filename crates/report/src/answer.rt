@@ -3,7 +3,7 @@ ghost use Prim.Native.Nat.{_≤_};
 ghost use mathlib.Core.Path.{_≡_};
 ghost use mathlib.Core.Bool.{true};
 ghost use lib.ListN.{length};
-ghost use Rattle.text.specs.Digits.{bytesOf, hexNumber, decimalNumber};
+ghost use Rattle.reading.specs.Digits.{hexBytes, hexNumber, decimalNumber};
 ghost use Rattle.text.specs.Output.{append};
 ghost use Rattle.request.specs.Requests.{wellFormed};
 ghost use Rattle.report.specs.Sift.{lineEnd, requestColumns};
@@ -18,8 +18,8 @@ pub(crate) fn write_request(
     l: &[u8],
 ) -> usize
     requires { ⌜ wellFormed (now m) (now c) (now w) (now l) ≡ true ⌝ }
-    ensures { λ r. ⌜ (now (out .exit), r) ≡ append (now (out .entry), taken) (lineEnd (requestColumns (bytesOf (now (m .entry))) (bytesOf (now (c .entry))) (hexNumber (now (w .entry))) (decimalNumber (now (l .entry))))) ⌝ }
-    ensures { λ r. ⌜ length (lineEnd (requestColumns (bytesOf (now (m .entry))) (bytesOf (now (c .entry))) (hexNumber (now (w .entry))) (decimalNumber (now (l .entry))))) ≤ 70 ⌝ }
+    ensures { λ r. ⌜ (now (out .exit), r) ≡ append (now (out .entry), taken) (lineEnd (requestColumns (hexBytes (now (m .entry))) (hexBytes (now (c .entry))) (hexNumber (now (w .entry))) (decimalNumber (now (l .entry))))) ⌝ }
+    ensures { λ r. ⌜ length (lineEnd (requestColumns (hexBytes (now (m .entry))) (hexBytes (now (c .entry))) (hexNumber (now (w .entry))) (decimalNumber (now (l .entry))))) ≤ 70 ⌝ }
 {
     let mut message = [0u8; 14];
     let size = reading::hex_bytes(m, &mut message);
@@ -37,7 +37,8 @@ pub(crate) fn write_request(
     )
 }
 
-// The sensor is called; its verdict, and the message after the call.
+// The sensor is called; its verdict, and the message after the call: 70 bytes at most, which are 40 of a verdict, a space,
+// 28 digits and the line feed.
 fn write_called(
     out: &mut [u8],
     taken: usize,

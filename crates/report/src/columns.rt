@@ -1,10 +1,12 @@
 // The columns of an input line, one after the other, up to the four of a well-formed line. They are 'parted by one space':
 // the next column starts right behind it.
+//
+// An answer has at most 19 bytes, those of a malformed line, and 24 for each byte of the columns that are left (src/lib.rt).
 ghost use Prim.Native.Nat.{_+_, _-_, _*_, _≤_, _<_};
 ghost use mathlib.Core.Path.{_≡_};
 ghost use mathlib.Core.List.{[], _∷_};
 ghost use lib.ListN.{length};
-ghost use Rattle.text.specs.Lines.{columns};
+ghost use Rattle.reading.specs.Lines.{columns};
 ghost use Rattle.text.specs.Output.{append};
 ghost use Rattle.report.specs.Sift.{answerText};
 use crate::answer::write_request;

@@ -5,6 +5,13 @@
 // Each function appends to the output buffer: it takes the number of bytes taken already, answers the number taken
 // then, and its contract names the text it appends by a definition of specs/Sift.antt. The second promise of each
 // bounds that text, so that the buffer of `sift` has room for every output.
+//
+// The bound is 24 bytes for each byte of the input. An empty line is one byte, its line feed, and its output has at most 24:
+// 5 digits of the line's number, since there are at most 65,536 lines, and the 19 bytes ` malformed - - - -` with a line
+// feed. A longer malformed line has no more, and a well-formed line, with the 6 digits of its word and others, at most 5 +
+// 70 (src/answer.rt), which is less than 24 * 7. So k bytes in front of a line feed give at most 24 * (k + 1) bytes. The
+// last line may lack its line feed, so 65,536 bytes give at most 24 * 65,537. With the header's 37 that is 1,572,925, and
+// the buffer has that rounded up to a multiple of 64: 1,572,928.
 ghost use Prim.Native.Nat.{_≤_};
 ghost use mathlib.Core.Path.{_≡_};
 ghost use mathlib.Core.List.{_++_};

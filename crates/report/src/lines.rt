@@ -1,9 +1,10 @@
-// One output line for each input line.
+// One output line for each input line, of at most 24 bytes for each byte read (src/lib.rt).
 ghost use Prim.Native.Nat.{_+_, _*_, _≤_};
 ghost use mathlib.Core.Path.{_≡_};
 ghost use lib.ListN.{length};
 ghost use lib.Dec.{ltb};
-ghost use Rattle.text.specs.Lines.{lines, before, lineFeed};
+ghost use Rattle.text.specs.Ascii.{lineFeed};
+ghost use Rattle.reading.specs.Lines.{lines, before};
 ghost use Rattle.text.specs.Output.{append};
 ghost use Rattle.report.specs.Sift.{outputLine, outputLines};
 use crate::columns::write_answer;
@@ -41,7 +42,7 @@ fn line_size(rest: &[u8]) -> usize
     reading::find(rest, 10)
 }
 
-// A line's number, and its answer.
+// A line's number, of at most 5 digits, and its answer.
 fn write_line(out: &mut [u8], taken: usize, number: u32, line: &[u8]) -> usize
     requires { ⌜ number ≤ 99999 ⌝ }
     ensures { λ r. ⌜ (now (out .exit), r) ≡ append (now (out .entry), taken) (outputLine number (now (line .entry))) ⌝ }

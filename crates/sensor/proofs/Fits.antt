@@ -4,18 +4,16 @@
 use mathlib.Core.Path.{_≡_, refl, sym, ap, ap₂, _∙_, subst}
 use mathlib.Core.Logic.{_⊎_, inl, inr}
 use mathlib.Core.Bool.{Bool, true, false, cond}
-use mathlib.Core.List.{List}
 use Prim.Native.Nat.{ℕ, zero, suc, _+_, _-_, _*_, _/_, _^_, _<_, _≤_}
-use native.Mathlib.Nat.{add-suc, add-zero, zero-add, mul-one, zero-mul, eq-or-lt-of-le, le-of-suc-le-suc, not-suc-le-zero, zero-lt-suc, lt-trans, le-refl, lt-irrefl, lt-of-lt-of-le, le-suc, le-trans, le-of-eq, one-mul, mul-le-mul-right}
+use native.Mathlib.Nat.{add-suc, add-zero, zero-add, mul-one, zero-mul, eq-or-lt-of-le, le-of-suc-le-suc, not-suc-le-zero, lt-trans, le-refl, lt-irrefl, lt-of-lt-of-le, le-suc, le-trans, le-of-eq, one-mul, mul-le-mul-right}
 use native.Mathlib.Numerals.{add-one}
 use native.Mathlib.Omega.{arith}
-use lib.Bits.{bitAnd}
 use lib.Pow.{pow-mono, shl-shr}
 use lib.Dec.{eqb, lit<}
 use borrow.Author.Tests.{eqb-true, eqb-false, eq-eqb, ne-eqb}
+use Rattle.outcome.proofs.Laws.{never, positive}
 use Rattle.division.specs.Division.{remainder, backward}
 use Rattle.division.proofs.Laws.{remainder-zero, remainder-small, remainder-shl, backward-is, backward-lt, shl-suc, shl-shl, shl-comm}
-use Rattle.sensor.specs.Changes.{marksAt}
 use Rattle.sensor.specs.Verdicts.{firstOf, highest, candidate, changeAt, fitsAt}
 use Rattle.sensor.specs.Verdicts.Found.{nowhere, at}
 use Rattle.sensor.specs.Searching.{Sound, counted, noted, kept, visited, searchTo}
@@ -43,14 +41,7 @@ candidate-pos s e p h = positive (candidate s e) (λ z. lt-irrefl 0 (subst (λ (
     none : candidate s e ≡ 0 → s ≡ 0
     none z = sym (candidate-law s e h) ∙ ap (λ (n : ℕ). remainder (n * 2 ^ e)) z ∙ ap remainder (zero-mul (2 ^ e)) ∙ remainder-zero
 
-    positive : (n : ℕ) → (n ≡ 0 → ⊥) → 0 < n
-    positive zero q = absurd (q refl)
-    positive (suc n) q = zero-lt-suc n
-
 -- ---- the highest place that passes a test
-
-never : {t : Bool} → t ≡ true → t ≡ false → ⊥
-never a b = let z : _≡_ {A = ℕ} 0 1 = cc in omega arith
 
 below-suc : (e k : ℕ) → e < suc k → (e ≡ k) ⊎ (e < k)
 below-suc e k h = eq-or-lt-of-le (le-of-suc-le-suc h)
@@ -98,93 +89,93 @@ highest-some t (suc k) e l p = by (t k) refl (below-suc e k l) (λ r. highest-so
 -- ---- what the state says after the places below k
 
 -- its fit is the one at the highest place that fits
-pub record Top (c : List ℕ) (s k : ℕ) (st : Search) : Type 0 where
+pub record Top (φ : ℕ → ℕ → Bool) (s k : ℕ) (st : Search) : Type 0 where
   pub below : st .place < k
   pub pattern : st .pattern ≡ candidate s (st .place)
-  pub fits : fitsAt c s (st .place) ≡ true
-  pub last : (e : ℕ) → st .place < e → e < k → fitsAt c s e ≡ false
+  pub fits : fitsAt φ s (st .place) ≡ true
+  pub last : (e : ℕ) → st .place < e → e < k → fitsAt φ s e ≡ false
 
-pub data Seen (c : List ℕ) (s k : ℕ) (st : Search) : Type 0 where
-  none : st .changes ≡ 0 → ((e : ℕ) → e < k → fitsAt c s e ≡ false) → Seen c s k st
-  one : st .changes ≡ 1 → Top c s k st → ((e : ℕ) → e < k → fitsAt c s e ≡ true → changeAt s e ≡ changeAt s (st .place)) → Seen c s k st
-  many : st .changes ≡ 2 → Top c s k st → (e : ℕ) → e < k → fitsAt c s e ≡ true → (changeAt s e ≡ changeAt s (st .place) → ⊥) → Seen c s k st
+pub data Seen (φ : ℕ → ℕ → Bool) (s k : ℕ) (st : Search) : Type 0 where
+  none : st .changes ≡ 0 → ((e : ℕ) → e < k → fitsAt φ s e ≡ false) → Seen φ s k st
+  one : st .changes ≡ 1 → Top φ s k st → ((e : ℕ) → e < k → fitsAt φ s e ≡ true → changeAt s e ≡ changeAt s (st .place)) → Seen φ s k st
+  many : st .changes ≡ 2 → Top φ s k st → (e : ℕ) → e < k → fitsAt φ s e ≡ true → (changeAt s e ≡ changeAt s (st .place) → ⊥) → Seen φ s k st
 
 -- the state with another candidate, and the rest from a second state
 abbrev moved : Search → ℕ → Search
 moved st n = record { candidate = n; changes = st .changes; place = st .place; pattern = st .pattern }
 
-higher : (c : List ℕ) (s k : ℕ) (st : Search) (n : ℕ) → fitsAt c s k ≡ false → Top c s k st → Top c s (suc k) (moved st n)
-higher c s k st n f t = record { below = lt-trans (t .below) (le-refl (suc k)); pattern = t .pattern; fits = t .fits; last = more }
+higher : (φ : ℕ → ℕ → Bool) (s k : ℕ) (st : Search) (n : ℕ) → fitsAt φ s k ≡ false → Top φ s k st → Top φ s (suc k) (moved st n)
+higher φ s k st n f t = record { below = lt-trans (t .below) (le-refl (suc k)); pattern = t .pattern; fits = t .fits; last = more }
   where
-    more : (e : ℕ) → st .place < e → e < suc k → fitsAt c s e ≡ false
+    more : (e : ℕ) → st .place < e → e < suc k → fitsAt φ s e ≡ false
     more e a l = by (below-suc e k l)
       where
-        by : (e ≡ k) ⊎ (e < k) → fitsAt c s e ≡ false
-        by (inl q) = ap (fitsAt c s) q ∙ f
+        by : (e ≡ k) ⊎ (e < k) → fitsAt φ s e ≡ false
+        by (inl q) = ap (fitsAt φ s) q ∙ f
         by (inr q) = t .last e a q
 
 -- a place that does not fit changes nothing
-passed-by : (c : List ℕ) (s k : ℕ) (st : Search) (n : ℕ) → fitsAt c s k ≡ false → Seen c s k st → Seen c s (suc k) (moved st n)
-passed-by c s k st n f (none z h) = none z more
+passed-by : (φ : ℕ → ℕ → Bool) (s k : ℕ) (st : Search) (n : ℕ) → fitsAt φ s k ≡ false → Seen φ s k st → Seen φ s (suc k) (moved st n)
+passed-by φ s k st n f (none z h) = none z more
   where
-    more : (e : ℕ) → e < suc k → fitsAt c s e ≡ false
+    more : (e : ℕ) → e < suc k → fitsAt φ s e ≡ false
     more e l = by (below-suc e k l)
       where
-        by : (e ≡ k) ⊎ (e < k) → fitsAt c s e ≡ false
-        by (inl q) = ap (fitsAt c s) q ∙ f
+        by : (e ≡ k) ⊎ (e < k) → fitsAt φ s e ≡ false
+        by (inl q) = ap (fitsAt φ s) q ∙ f
         by (inr q) = h e q
-passed-by c s k st n f (one z t h) = one z (higher c s k st n f t) more
+passed-by φ s k st n f (one z t h) = one z (higher φ s k st n f t) more
   where
-    more : (e : ℕ) → e < suc k → fitsAt c s e ≡ true → changeAt s e ≡ changeAt s (st .place)
+    more : (e : ℕ) → e < suc k → fitsAt φ s e ≡ true → changeAt s e ≡ changeAt s (st .place)
     more e l p = by (below-suc e k l)
       where
         by : (e ≡ k) ⊎ (e < k) → changeAt s e ≡ changeAt s (st .place)
-        by (inl q) = absurd (never (sym (ap (fitsAt c s) q) ∙ p) f)
+        by (inl q) = absurd (never (sym (ap (fitsAt φ s) q) ∙ p) f)
         by (inr q) = h e q p
-passed-by c s k st n f (many z t e l p d) = many z (higher c s k st n f t) e (lt-trans l (le-refl (suc k))) p d
+passed-by φ s k st n f (many z t e l p d) = many z (higher φ s k st n f t) e (lt-trans l (le-refl (suc k))) p d
 
 -- the state after a fit at place k
 abbrev after : ℕ → ℕ → ℕ → ℕ → Search
 after k p n changes = record { candidate = n; changes = changes; place = k; pattern = p }
 
-top : (c : List ℕ) (s k n changes : ℕ) → fitsAt c s k ≡ true → Top c s (suc k) (after k (candidate s k) n changes)
-top c s k n changes f =
+top : (φ : ℕ → ℕ → Bool) (s k n changes : ℕ) → fitsAt φ s k ≡ true → Top φ s (suc k) (after k (candidate s k) n changes)
+top φ s k n changes f =
     record { below = le-refl (suc k); pattern = refl; fits = f; last = λ e a l. absurd (lt-irrefl k (lt-of-lt-of-le a (le-of-suc-le-suc l))) }
 
-first-fit : (c : List ℕ) (s k n : ℕ) → fitsAt c s k ≡ true → ((e : ℕ) → e < k → fitsAt c s e ≡ false) → Seen c s (suc k) (after k (candidate s k) n 1)
-first-fit c s k n f h = one refl (top c s k n 1 f) more
+first-fit : (φ : ℕ → ℕ → Bool) (s k n : ℕ) → fitsAt φ s k ≡ true → ((e : ℕ) → e < k → fitsAt φ s e ≡ false) → Seen φ s (suc k) (after k (candidate s k) n 1)
+first-fit φ s k n f h = one refl (top φ s k n 1 f) more
   where
-    more : (e : ℕ) → e < suc k → fitsAt c s e ≡ true → changeAt s e ≡ changeAt s k
+    more : (e : ℕ) → e < suc k → fitsAt φ s e ≡ true → changeAt s e ≡ changeAt s k
     more e l p = by (below-suc e k l)
       where
         by : (e ≡ k) ⊎ (e < k) → changeAt s e ≡ changeAt s k
         by (inl q) = ap (changeAt s) q
         by (inr q) = absurd (never p (h e q))
 
-same-fit : (c : List ℕ) (s k n q : ℕ) → fitsAt c s k ≡ true → changeAt s q ≡ changeAt s k
-    → ((e : ℕ) → e < k → fitsAt c s e ≡ true → changeAt s e ≡ changeAt s q) → Seen c s (suc k) (after k (candidate s k) n 1)
-same-fit c s k n q f g h = one refl (top c s k n 1 f) more
+same-fit : (φ : ℕ → ℕ → Bool) (s k n q : ℕ) → fitsAt φ s k ≡ true → changeAt s q ≡ changeAt s k
+    → ((e : ℕ) → e < k → fitsAt φ s e ≡ true → changeAt s e ≡ changeAt s q) → Seen φ s (suc k) (after k (candidate s k) n 1)
+same-fit φ s k n q f g h = one refl (top φ s k n 1 f) more
   where
-    more : (e : ℕ) → e < suc k → fitsAt c s e ≡ true → changeAt s e ≡ changeAt s k
+    more : (e : ℕ) → e < suc k → fitsAt φ s e ≡ true → changeAt s e ≡ changeAt s k
     more e l p = by (below-suc e k l)
       where
         by : (e ≡ k) ⊎ (e < k) → changeAt s e ≡ changeAt s k
         by (inl r) = ap (changeAt s) r
         by (inr r) = h e r p ∙ g
 
-other-fit : (c : List ℕ) (s k n q : ℕ) → fitsAt c s k ≡ true → q < k → fitsAt c s q ≡ true → (changeAt s q ≡ changeAt s k → ⊥)
-    → Seen c s (suc k) (after k (candidate s k) n 2)
-other-fit c s k n q f l p d = many refl (top c s k n 2 f) q (lt-trans l (le-refl (suc k))) p d
+other-fit : (φ : ℕ → ℕ → Bool) (s k n q : ℕ) → fitsAt φ s k ≡ true → q < k → fitsAt φ s q ≡ true → (changeAt s q ≡ changeAt s k → ⊥)
+    → Seen φ s (suc k) (after k (candidate s k) n 2)
+other-fit φ s k n q f l p d = many refl (top φ s k n 2 f) q (lt-trans l (le-refl (suc k))) p d
 
 -- a fit at place k, by what was seen before
-fit-more : (c : List ℕ) (s k : ℕ) (st : Search) (n : ℕ) → fitsAt c s k ≡ true → st .candidate ≡ candidate s k → Seen c s k st
-    → Seen c s (suc k) (after k (candidate s k) n (counted st k))
+fit-more : (φ : ℕ → ℕ → Bool) (s k : ℕ) (st : Search) (n : ℕ) → fitsAt φ s k ≡ true → st .candidate ≡ candidate s k → Seen φ s k st
+    → Seen φ s (suc k) (after k (candidate s k) n (counted st k))
 unfolding changeAt
-fit-more c s k st n f e (none z h) =
-    subst (λ (m : ℕ). Seen c s (suc k) (after k (candidate s k) n m))
+fit-more φ s k st n f e (none z h) =
+    subst (λ (m : ℕ). Seen φ s (suc k) (after k (candidate s k) n m))
     (sym (ap (λ (b : Bool). cond b 1 (cond (eqb (st .pattern * 2 ^ st .place) (st .candidate * 2 ^ k)) (st .changes) 2)) (eq-eqb (st .changes) 0 z)))
-    (first-fit c s k n f h)
-fit-more c s k st n f e (one z t h) = by (eqb (st .pattern * 2 ^ st .place) (st .candidate * 2 ^ k)) refl
+    (first-fit φ s k n f h)
+fit-more φ s k st n f e (one z t h) = by (eqb (st .pattern * 2 ^ st .place) (st .candidate * 2 ^ k)) refl
   where
     here : st .pattern * 2 ^ st .place ≡ changeAt s (st .place)
     here = ap (λ (p : ℕ). p * 2 ^ st .place) (t .pattern)
@@ -197,33 +188,33 @@ fit-more c s k st n f e (one z t h) = by (eqb (st .pattern * 2 ^ st .place) (st 
         ap₂ (λ (u v : Bool). cond u 1 (cond v (st .changes) 2)) (ap (λ (m : ℕ). eqb m 0) z) q
         ∙ ap (λ (m : ℕ). cond b m 2) z
 
-    by : (b : Bool) → eqb (st .pattern * 2 ^ st .place) (st .candidate * 2 ^ k) ≡ b → Seen c s (suc k) (after k (candidate s k) n (counted st k))
+    by : (b : Bool) → eqb (st .pattern * 2 ^ st .place) (st .candidate * 2 ^ k) ≡ b → Seen φ s (suc k) (after k (candidate s k) n (counted st k))
     by true q =
-        subst (λ (m : ℕ). Seen c s (suc k) (after k (candidate s k) n m)) (sym (count true q))
-        (same-fit c s k n (st .place) f (sym here ∙ eqb-true (st .pattern * 2 ^ st .place) (st .candidate * 2 ^ k) q ∙ there) h)
+        subst (λ (m : ℕ). Seen φ s (suc k) (after k (candidate s k) n m)) (sym (count true q))
+        (same-fit φ s k n (st .place) f (sym here ∙ eqb-true (st .pattern * 2 ^ st .place) (st .candidate * 2 ^ k) q ∙ there) h)
     by false q =
-        subst (λ (m : ℕ). Seen c s (suc k) (after k (candidate s k) n m)) (sym (count false q))
-        (other-fit c s k n (st .place) f (t .below) (t .fits)
+        subst (λ (m : ℕ). Seen φ s (suc k) (after k (candidate s k) n m)) (sym (count false q))
+        (other-fit φ s k n (st .place) f (t .below) (t .fits)
         (λ p. eqb-false (st .pattern * 2 ^ st .place) (st .candidate * 2 ^ k) q (here ∙ p ∙ sym there)))
-fit-more c s k st n f e (many z t i l p d) = by (eqb (changeAt s i) (changeAt s k)) refl
+fit-more φ s k st n f e (many z t i l p d) = by (eqb (changeAt s i) (changeAt s k)) refl
   where
     count : (b : Bool) → eqb (st .pattern * 2 ^ st .place) (st .candidate * 2 ^ k) ≡ b → counted st k ≡ 2
     count true q = ap₂ (λ (u v : Bool). cond u 1 (cond v (st .changes) 2)) (ap (λ (m : ℕ). eqb m 0) z) q ∙ z
     count false q = ap₂ (λ (u v : Bool). cond u 1 (cond v (st .changes) 2)) (ap (λ (m : ℕ). eqb m 0) z) q
 
-    two : Seen c s (suc k) (after k (candidate s k) n 2) → Seen c s (suc k) (after k (candidate s k) n (counted st k))
+    two : Seen φ s (suc k) (after k (candidate s k) n 2) → Seen φ s (suc k) (after k (candidate s k) n (counted st k))
     two seen =
-        subst (λ (m : ℕ). Seen c s (suc k) (after k (candidate s k) n m))
+        subst (λ (m : ℕ). Seen φ s (suc k) (after k (candidate s k) n m))
         (sym (count (eqb (st .pattern * 2 ^ st .place) (st .candidate * 2 ^ k)) refl)) seen
 
-    by : (b : Bool) → eqb (changeAt s i) (changeAt s k) ≡ b → Seen c s (suc k) (after k (candidate s k) n (counted st k))
+    by : (b : Bool) → eqb (changeAt s i) (changeAt s k) ≡ b → Seen φ s (suc k) (after k (candidate s k) n (counted st k))
     by true q =
-        two (other-fit c s k n (st .place) f (t .below) (t .fits) (λ r. d (eqb-true (changeAt s i) (changeAt s k) q ∙ sym r)))
-    by false q = two (other-fit c s k n i f l p (eqb-false (changeAt s i) (changeAt s k) q))
+        two (other-fit φ s k n (st .place) f (t .below) (t .fits) (λ r. d (eqb-true (changeAt s i) (changeAt s k) q ∙ sym r)))
+    by false q = two (other-fit φ s k n i f l p (eqb-false (changeAt s i) (changeAt s k) q))
 
-seen-next : (c : List ℕ) (s k : ℕ) (st : Search) → st .candidate ≡ candidate s k → Seen c s k st → Seen c s (suc k) (visited c st k)
+seen-next : (φ : ℕ → ℕ → Bool) (s k : ℕ) (st : Search) → st .candidate ≡ candidate s k → Seen φ s k st → Seen φ s (suc k) (visited φ st k)
 unfolding visited noted fitsAt
-seen-next c s k st e seen = by (fitsAt c s k) refl
+seen-next φ s k st e seen = by (fitsAt φ s k) refl
   where
     n : ℕ
     n = backward (st .candidate)
@@ -231,55 +222,55 @@ seen-next c s k st e seen = by (fitsAt c s k) refl
     state : Bool → Search
     state b = moved (kept st b k) n
 
-    test : eqb (bitAnd (st .candidate) (marksAt c k)) (st .candidate) ≡ fitsAt c s k
-    test = ap (λ (p : ℕ). eqb (bitAnd p (marksAt c k)) p) e
+    test : φ k (st .candidate) ≡ fitsAt φ s k
+    test = ap (φ k) e
 
-    by : (b : Bool) → fitsAt c s k ≡ b → Seen c s (suc k) (visited c st k)
+    by : (b : Bool) → fitsAt φ s k ≡ b → Seen φ s (suc k) (visited φ st k)
     by true f =
-        subst (λ (b : Bool). Seen c s (suc k) (state b)) (sym (test ∙ f))
-        (subst (λ (p : ℕ). Seen c s (suc k) (after k p n (counted st k))) (sym e) (fit-more c s k st n f e seen))
-    by false f = subst (λ (b : Bool). Seen c s (suc k) (state b)) (sym (test ∙ f)) (passed-by c s k st n f seen)
+        subst (λ (b : Bool). Seen φ s (suc k) (state b)) (sym (test ∙ f))
+        (subst (λ (p : ℕ). Seen φ s (suc k) (after k p n (counted st k))) (sym e) (fit-more φ s k st n f e seen))
+    by false f = subst (λ (b : Bool). Seen φ s (suc k) (state b)) (sym (test ∙ f)) (passed-by φ s k st n f seen)
 
-pub search-start : (c : List ℕ) (s : ℕ) → _≡_ {A = Search} (record { candidate = s; changes = 0; place = 0; pattern = 0 }) (searchTo c s 0)
+pub search-start : (φ : ℕ → ℕ → Bool) (s : ℕ) → _≡_ {A = Search} (record { candidate = s; changes = 0; place = 0; pattern = 0 }) (searchTo φ s 0)
 unfolding searchTo
-search-start c s = refl
+search-start φ s = refl
 
-pub search-next : (c : List ℕ) (s k : ℕ) → searchTo c s (k + 1) ≡ visited c (searchTo c s k) k
+pub search-next : (φ : ℕ → ℕ → Bool) (s k : ℕ) → searchTo φ s (k + 1) ≡ visited φ (searchTo φ s k) k
 unfolding searchTo
-search-next c s k = ap (searchTo c s) (add-one k)
+search-next φ s k = ap (searchTo φ s) (add-one k)
 
-pub search-candidate : (c : List ℕ) (s k : ℕ) → searchTo c s k .candidate ≡ candidate s k
+pub search-candidate : (φ : ℕ → ℕ → Bool) (s k : ℕ) → searchTo φ s k .candidate ≡ candidate s k
 unfolding searchTo visited candidate
-search-candidate c s zero = refl
-search-candidate c s (suc k) = ap backward (search-candidate c s k)
+search-candidate φ s zero = refl
+search-candidate φ s (suc k) = ap backward (search-candidate φ s k)
 
-pub search-seen : (c : List ℕ) (s k : ℕ) → Seen c s k (searchTo c s k)
+pub search-seen : (φ : ℕ → ℕ → Bool) (s k : ℕ) → Seen φ s k (searchTo φ s k)
 unfolding searchTo
-search-seen c s zero = none refl (λ e l. absurd (not-suc-le-zero l))
-search-seen c s (suc k) = seen-next c s k (searchTo c s k) (search-candidate c s k) (search-seen c s k)
+search-seen φ s zero = none refl (λ e l. absurd (not-suc-le-zero l))
+search-seen φ s (suc k) = seen-next φ s k (searchTo φ s k) (search-candidate φ s k) (search-seen φ s k)
 
 -- ---- the numbers of the state are in range
 
-in-range : (c : List ℕ) (s k : ℕ) → s < 2 ^ 24 → (searchTo c s k .place ≤ k) × (searchTo c s k .pattern < 2 ^ 24)
+in-range : (φ : ℕ → ℕ → Bool) (s k : ℕ) → s < 2 ^ 24 → (searchTo φ s k .place ≤ k) × (searchTo φ s k .pattern < 2 ^ 24)
 unfolding searchTo visited noted
-in-range c s zero h = (le-refl 0, lit< tt)
-in-range c s (suc k) h = by (eqb (bitAnd (st .candidate) (marksAt c k)) (st .candidate)) (in-range c s k h)
+in-range φ s zero h = (le-refl 0, lit< tt)
+in-range φ s (suc k) h = by (φ k (st .candidate)) (in-range φ s k h)
   where
     st : Search
-    st = searchTo c s k
+    st = searchTo φ s k
 
     by : (b : Bool) → (st .place ≤ k) × (st .pattern < 2 ^ 24) → (kept st b k .place ≤ suc k) × (kept st b k .pattern < 2 ^ 24)
-    by true r = (le-suc k, subst (λ (p : ℕ). p < 2 ^ 24) (sym (search-candidate c s k)) (candidate-lt s k h))
+    by true r = (le-suc k, subst (λ (p : ℕ). p < 2 ^ 24) (sym (search-candidate φ s k)) (candidate-lt s k h))
     by false r = (omega arith, r .1)
 
-pub search-sound : (c : List ℕ) (s k : ℕ) → 0 < s → s < 2 ^ 24 → Sound (searchTo c s k) k
+pub search-sound : (φ : ℕ → ℕ → Bool) (s k : ℕ) → 0 < s → s < 2 ^ 24 → Sound (searchTo φ s k) k
 unfolding Sound
-search-sound c s k p h = (
+search-sound φ s k p h = (
   (
-    subst (λ (n : ℕ). 0 < n) (sym (search-candidate c s k)) (candidate-pos s k p h),
-    subst (λ (n : ℕ). n < 2 ^ 24) (sym (search-candidate c s k)) (candidate-lt s k h),
+    subst (λ (n : ℕ). 0 < n) (sym (search-candidate φ s k)) (candidate-pos s k p h),
+    subst (λ (n : ℕ). n < 2 ^ 24) (sym (search-candidate φ s k)) (candidate-lt s k h),
   ),
-  in-range c s k h,
+  in-range φ s k h,
 )
 
 -- ---- two patterns at two places are the same message bits

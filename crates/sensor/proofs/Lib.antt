@@ -1,8 +1,9 @@
 -- The laws of the sensor.
 pub mod Marks
 pub mod Bits
+pub mod Checking
 pub mod Fits
-pub mod Rows
+pub mod Deciding
 pub mod Relation
 pub mod Said
 pub mod Laws

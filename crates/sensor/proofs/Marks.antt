@@ -13,7 +13,8 @@ use lib.Pow.{field as cut}
 use borrow.Author.Tests.{le-ltb}
 use Rattle.message.specs.Message.{number, Bytes}
 use Rattle.division.proofs.Laws.{shl-shl}
-use Rattle.message.proofs.Laws.{number-split, bytes-drop, part-from}
+use Rattle.outcome.proofs.Laws.{part-from}
+use Rattle.message.proofs.Laws.{number-split, bytes-drop}
 use Rattle.windows.specs.Windows.{Starts, fourBytes, windowBits}
 use Rattle.windows.proofs.Laws.{window-number, sparse-window}
 use Rattle.sensor.specs.Changes.{marksAt}

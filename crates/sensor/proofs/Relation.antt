@@ -15,11 +15,14 @@ use borrow.Author.Tests.{eqb-true, eq-eqb, ltb-true, ltb-false}
 use Rattle.division.specs.Division.{remainder}
 use Rattle.message.specs.Message.{number}
 use Rattle.division.proofs.Laws.{xor-cancel, xor-move, remainder-xor, window-unique}
-use Rattle.sensor.specs.Changes.{lastWindow, place, Carries, InWindow, OnLow, Fit, marksAt, lowMarks}
-use Rattle.sensor.specs.Verdicts.{firstOf, highest, syndrome, candidate, changeAt, denseAt, fitsAt, differsAt}
+use Rattle.message.specs.Bits.{lastWindow, place}
+use Rattle.outcome.proofs.Laws.{never}
+use Rattle.division.specs.Division.{Carries}
+use Rattle.sensor.specs.Changes.{OnLow, Fit, marksAt, lowMarks}
+use Rattle.sensor.specs.Verdicts.{firstOf, highest, syndrome, candidate, changeAt, denseAt, passes, fitsAt, differsAt}
 use Rattle.sensor.specs.Verdicts.Found.{nowhere, at}
 use Rattle.sensor.proofs.Fits.{candidate-lt, candidate-law, candidate-pos}
-use Rattle.sensor.proofs.Rows.{syndrome-lt}
+use Rattle.sensor.proofs.Deciding.{syndrome-lt}
 
 -- ---- a pattern at a place and the marks of the window there
 
@@ -49,21 +52,21 @@ on-low← c p e h o = and-shl p (number c) e h ∙ ap (λ (n : ℕ). n * 2 ^ e) 
 -- ---- carrying the word
 
 pub carries-zero : (m : List ℕ) (w : ℕ) → Carries (number m) w → syndrome m w ≡ 0
-unfolding Carries syndrome
+unfolding syndrome
 carries-zero m w e = ap (λ (r : ℕ). bitXor r w) e ∙ xor-self w
 
 pub zero-carries : (m : List ℕ) (w : ℕ) → syndrome m w ≡ 0 → Carries (number m) w
-unfolding Carries syndrome
+unfolding syndrome
 zero-carries m w e = xor-move (remainder (number m)) w 0 e
 
 carries→ : (m : List ℕ) (w d : ℕ) → Carries (bitXor (number m) d) w → remainder d ≡ syndrome m w
-unfolding Carries syndrome
+unfolding syndrome
 carries→ m w d e =
     sym (xor-cancel (remainder (number m)) (remainder d))
     ∙ ap (bitXor (remainder (number m))) (sym (remainder-xor (number m) d) ∙ e)
 
 carries← : (m : List ℕ) (w d : ℕ) → remainder d ≡ syndrome m w → Carries (bitXor (number m) d) w
-unfolding Carries syndrome
+unfolding syndrome
 carries← m w d e = remainder-xor (number m) d ∙ ap (bitXor (remainder (number m))) e ∙ xor-cancel (remainder (number m)) w
 
 -- ---- the only change of a window is the candidate's
@@ -72,8 +75,8 @@ module _ (m c : List ℕ) (w : ℕ) (hw : w < 2 ^ 24) where
   s : ℕ
   s = syndrome m w
 
-  pub fit-is : (v d : ℕ) → Fit m c w v d → (d ≡ changeAt (syndrome m w) (place m v)) × (fitsAt c (syndrome m w) (place m v) ≡ true)
-  unfolding Fit InWindow changeAt fitsAt s
+  pub fit-is : (v d : ℕ) → Fit m c w v d → (d ≡ changeAt (syndrome m w) (place m v)) × (fitsAt (passes c) (syndrome m w) (place m v) ≡ true)
+  unfolding Fit changeAt passes fitsAt s
   fit-is v d f =
       let p : ℕ = f .0 .1 in
       let e : ℕ = place m v in
@@ -85,8 +88,8 @@ module _ (m c : List ℕ) (w : ℕ) (hw : w < 2 ^ 24) where
             (subst (λ (n : ℕ). bitAnd n (marksAt c e) ≡ n) same (on-low→ c p e (f .0 .3) (subst (OnLow c) (f .0 .4) (f .1)))),
       )
 
-  pub is-fit : (e : ℕ) → 0 < syndrome m w → e ≤ lastWindow m → fitsAt c (syndrome m w) e ≡ true → Fit m c w (lastWindow m - e) (changeAt (syndrome m w) e)
-  unfolding Fit InWindow changeAt fitsAt s
+  pub is-fit : (e : ℕ) → 0 < syndrome m w → e ≤ lastWindow m → fitsAt (passes c) (syndrome m w) e ≡ true → Fit m c w (lastWindow m - e) (changeAt (syndrome m w) e)
+  unfolding Fit changeAt passes fitsAt s
   is-fit e hs he t =
       let p : ℕ = candidate s e in
       let back : place m (lastWindow m - e) ≡ e = omega arith in (
@@ -113,12 +116,12 @@ not-dense c l v e = ltb-false l (ones (marksAt c (place c v))) e
 
 -- ---- what the highest place says
 
+not-at : {e : ℕ} → nowhere ≡ at e → ⊥
+not-at q = let z : _≡_ {A = ℕ} 0 1 = cc in omega arith
+
 pub highest-found : (t : ℕ → Bool) (k e : ℕ) → highest t k ≡ at e → (e < k) × (t e ≡ true) × ((i : ℕ) → e < i → i < k → t i ≡ false)
 unfolding highest
-highest-found t zero e h = absurd (apart h)
-  where
-    apart : nowhere ≡ at e → ⊥
-    apart q = let z : _≡_ {A = ℕ} 0 1 = cc in omega arith
+highest-found t zero e h = absurd (not-at h)
 highest-found t (suc k) e h = by (t k) refl (highest-found t k e)
   where
     by : (b : Bool) → t k ≡ b → (highest t k ≡ at e → (e < k) × (t e ≡ true) × ((i : ℕ) → e < i → i < k → t i ≡ false))
@@ -142,37 +145,32 @@ highest-empty t (suc k) h i l = by (t k) refl (highest-empty t k) (eq-or-lt-of-l
   where
     by : (b : Bool) → t k ≡ b → (highest t k ≡ nowhere → (i : ℕ) → i < k → t i ≡ false) → (i ≡ k) ⊎ (i < k) → t i ≡ false
     by true q lower z =
-        let here : at k ≡ nowhere = sym (ap (λ (b : Bool). firstOf b k (highest t k)) q) ∙ h in
-        let bad : _≡_ {A = ℕ} 0 1 = cc in
-        absurd (omega arith)
+        absurd (not-at (sym h ∙ ap (λ (b : Bool). firstOf b k (highest t k)) q))
     by false q lower (inl z) = ap t z ∙ q
     by false q lower (inr z) = lower (sym (ap (λ (b : Bool). firstOf b k (highest t k)) q) ∙ h) i z
 
 -- ---- fits that differ
 
-pub differs-is : (c : List ℕ) (s e i : ℕ) → differsAt c s e i ≡ true → (fitsAt c s i ≡ true) × (changeAt s i ≡ changeAt s e → ⊥)
+pub differs-is : (φ : ℕ → ℕ → Bool) (s e i : ℕ) → differsAt φ s e i ≡ true → (fitsAt φ s i ≡ true) × (changeAt s i ≡ changeAt s e → ⊥)
 unfolding differsAt
-differs-is c s e i h = by (fitsAt c s i) refl
+differs-is φ s e i h = by (fitsAt φ s i) refl
   where
-    by : (b : Bool) → fitsAt c s i ≡ b → (fitsAt c s i ≡ true) × (changeAt s i ≡ changeAt s e → ⊥)
+    by : (b : Bool) → fitsAt φ s i ≡ b → (fitsAt φ s i ≡ true) × (changeAt s i ≡ changeAt s e → ⊥)
     by true q = (
       q,
-      λ z. let bad : true ≡ false = sym h ∙ ap₂ (λ (t u : Bool). t && u) q (ap not (eq-eqb (changeAt s i) (changeAt s e) z)) in
-          let n : _≡_ {A = ℕ} 0 1 = cc in omega arith,
+      λ z. never h (ap₂ (λ (t u : Bool). t && u) q (ap not (eq-eqb (changeAt s i) (changeAt s e) z))),
     )
     by false q =
-        let bad : true ≡ false = sym h ∙ ap (λ (b : Bool). b && not (eqb (changeAt s i) (changeAt s e))) q in
-        let n : _≡_ {A = ℕ} 0 1 = cc in absurd (omega arith)
+        absurd (never h (ap (λ (b : Bool). b && not (eqb (changeAt s i) (changeAt s e))) q))
 
-pub same-is : (c : List ℕ) (s e i : ℕ) → differsAt c s e i ≡ false → fitsAt c s i ≡ true → changeAt s i ≡ changeAt s e
+pub same-is : (φ : ℕ → ℕ → Bool) (s e i : ℕ) → differsAt φ s e i ≡ false → fitsAt φ s i ≡ true → changeAt s i ≡ changeAt s e
 unfolding differsAt
-same-is c s e i h f = by (eqb (changeAt s i) (changeAt s e)) refl
+same-is φ s e i h f = by (eqb (changeAt s i) (changeAt s e)) refl
   where
     by : (b : Bool) → eqb (changeAt s i) (changeAt s e) ≡ b → changeAt s i ≡ changeAt s e
     by true q = eqb-true (changeAt s i) (changeAt s e) q
     by false q =
-        let bad : true ≡ false = sym (ap₂ (λ (t u : Bool). t && u) f (ap not q)) ∙ h in
-        let n : _≡_ {A = ℕ} 0 1 = cc in absurd (omega arith)
+        absurd (never (ap₂ (λ (t u : Bool). t && u) f (ap not q)) h)
 
 -- ---- the ones of a change are the ones of its pattern
 

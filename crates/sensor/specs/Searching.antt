@@ -1,18 +1,11 @@
--- What the search of the code holds after some places. That it ends with what Verdicts.antt defines is the law
--- `search-seen` (proofs/Fits.antt).
+-- What the search of the code holds after some places: cited by private functions alone. That it ends with what
+-- Verdicts.antt defines is the law `search-seen` (proofs/Fits.antt).
 use Prim.Native.Nat.{ℕ, zero, suc, _*_, _^_, _<_, _≤_}
-use mathlib.Core.List.{List, []}
 use mathlib.Core.Bool.{Bool, cond}
-use lib.Bits.{bitAnd}
 use lib.Dec.{eqb}
 use Rattle.division.specs.Division.{backward}
-use Rattle.sensor.specs.Changes.{marksAt}
-use Rattle.sensor.specs.Verdicts.{Found}
+use Rattle.sensor.specs.Verdicts.{soleMark, severalMark, Found}
 use Rattle.sensor.specs.Verdicts.Found.{nowhere, at}
-use Rattle.division.specs.Answers.{Outcome}
-use Rattle.division.specs.Answers.Outcome.{refusal, answer}
-use Rattle.sensor.specs.declared.Admission.{Admission}
-use Rattle.sensor.specs.declared.Admission.the-variants.{Passed, Refused}
 use Rattle.sensor.specs.declared.density.Spot.{Spot}
 use Rattle.sensor.specs.declared.density.Spot.the-variants.{Nowhere, At}
 use Rattle.sensor.specs.declared.search.Search.{Search}
@@ -39,21 +32,16 @@ abbrev pub kept : Search → Bool → ℕ → Search
 kept st here e = cond here (noted st e) st
 
 -- the state after the window at place e
-unfoldable pub visited : List ℕ → Search → ℕ → Search
-visited c st e =
-    let seen = kept st (eqb (bitAnd (st .candidate) (marksAt c e)) (st .candidate)) e in
+unfoldable pub visited : (ℕ → ℕ → Bool) → Search → ℕ → Search
+visited φ st e =
+    let seen = kept st (φ e (st .candidate)) e in
     record { candidate = backward (st .candidate); changes = seen .changes; place = seen .place; pattern = seen .pattern }
 
 -- the state after the places below k, from the syndrome s
-unfoldable pub searchTo : List ℕ → ℕ → ℕ → Search
-searchTo c s zero = record { candidate = s; changes = 0; place = 0; pattern = 0 }
-searchTo c s (suc k) = visited c (searchTo c s k) k
+unfoldable pub searchTo : (ℕ → ℕ → Bool) → ℕ → ℕ → Search
+searchTo φ s zero = record { candidate = s; changes = 0; place = 0; pattern = 0 }
+searchTo φ s (suc k) = visited φ (searchTo φ s k) k
 
--- the mark for a number of changes: sole for one
+-- the mark for a number of changes
 abbrev pub markFor : ℕ → ℕ
-markFor n = cond (eqb n 1) 1 2
-
--- what the check of a call says
-abbrev pub checkSaid : Admission → Outcome
-checkSaid Passed = answer 0 []
-checkSaid (Refused n) = refusal n
+markFor n = cond (eqb n 1) soleMark severalMark

@@ -3,23 +3,59 @@
 --
 -- The search goes by places: the last window is place 0, the window before it place 1, and so on, so the lowest window is
 -- the highest place. In each window one pattern at most makes the message carry the word: the syndrome divided by x once
--- for each place.
-use Prim.Native.Nat.{ℕ, zero, suc, _-_, _*_, _/_, _%_, _^_}
+-- for each place. What a pattern must pass at a place is one definition, `passes`; all else holds of any such test.
+use Prim.Native.Nat.{ℕ, zero, suc, _-_, _*_, _^_}
 use mathlib.Core.List.{List, [], _∷_}
 use mathlib.Core.Bool.{Bool, true, false, not, _&&_}
 use lib.Bits.{bitAnd, bitXor}
 use lib.Count.{ones}
 use lib.Dec.{eqb, ltb, leb}
 use lib.ListN.{length}
+use Rattle.outcome.specs.Outcomes.{Outcome, unless, left}
+use Rattle.outcome.specs.Outcomes.Outcome.{refusal, answer}
+use Rattle.outcome.specs.Refusals.{wrongLength, wrongConfidenceLength, wordTooLarge, limitTooLarge}
 use Rattle.division.specs.Division.{remainder, backward}
 use Rattle.message.specs.Message.{number, isMessageLength, isWord}
-use Rattle.division.specs.Answers.{Outcome, unless, left, wrongLength, wrongConfidenceLength, wordTooLarge, limitTooLarge}
-use Rattle.division.specs.Answers.Outcome.{refusal, answer}
-use Rattle.sensor.specs.Changes.{lastWindow, marksAt}
+use Rattle.message.specs.Bits.{lastWindow, inverted}
+use Rattle.sensor.specs.Changes.{marksAt}
 use Rattle.sensor.specs.declared.Mark.{Mark}
 use Rattle.sensor.specs.declared.Mark.the-variants.{Sole, Several}
 use Rattle.sensor.specs.declared.Verdict.{Verdict}
 use Rattle.sensor.specs.declared.Verdict.the-variants.{Clean, Dense, NoFit, Corrected, Refused}
+
+-- ---- the answers
+
+-- The marks of a correction, as values of an answer.
+abbrev pub soleMark : ℕ
+soleMark = 1
+
+abbrev pub severalMark : ℕ
+severalMark = 2
+
+-- The four answers by document 01's numbers, each with its values: the window; the window, the number of ones and the mark.
+abbrev pub cleanAnswer : Outcome
+cleanAnswer = answer 1 []
+
+abbrev pub denseAnswer : ℕ → Outcome
+denseAnswer window = answer 2 (window ∷ [])
+
+abbrev pub noFitAnswer : Outcome
+noFitAnswer = answer 3 []
+
+abbrev pub correctedAnswer : ℕ → ℕ → ℕ → Outcome
+correctedAnswer window count mark = answer 4 (window ∷ count ∷ mark ∷ [])
+
+-- What a Verdict says.
+abbrev pub markOf : Mark → ℕ
+markOf Sole = soleMark
+markOf Several = severalMark
+
+abbrev pub said : Verdict → Outcome
+said Clean = cleanAnswer
+said (Dense w) = denseAnswer w
+said NoFit = noFitAnswer
+said (Corrected k) = correctedAnswer (k .window) (k .bits) (markOf (k .mark))
+said (Refused n) = refusal n
 
 -- ---- the search
 
@@ -48,76 +84,73 @@ candidate s (suc e) = backward (candidate s e)
 unfoldable pub changeAt : ℕ → ℕ → ℕ
 changeAt s e = candidate s e * 2 ^ e
 
--- The tests of a window: more low marks than the limit; a candidate with ones on low marks only; and a fit that inverts
--- other message bits than the fit at another place.
+-- The test of a window for density: more low marks than the limit.
 unfoldable pub denseAt : List ℕ → ℕ → ℕ → Bool
 denseAt c l e = ltb l (ones (marksAt c e))
 
-unfoldable pub fitsAt : List ℕ → ℕ → ℕ → Bool
-fitsAt c s e = eqb (bitAnd (candidate s e) (marksAt c e)) (candidate s e)
+-- The test of a pattern at a place: it has ones on low marks only.
+unfoldable pub passes : List ℕ → ℕ → ℕ → Bool
+passes c e p = eqb (bitAnd p (marksAt c e)) p
 
-unfoldable pub differsAt : List ℕ → ℕ → ℕ → ℕ → Bool
-differsAt c s e e′ = fitsAt c s e′ && not (eqb (changeAt s e′) (changeAt s e))
+-- Of any test φ: whether the candidate of a place passes it, and whether it does and inverts other message bits than the
+-- candidate of another place.
+unfoldable pub fitsAt : (ℕ → ℕ → Bool) → ℕ → ℕ → Bool
+fitsAt φ s e = φ e (candidate s e)
 
--- ---- the rows of document 01
+unfoldable pub differsAt : (ℕ → ℕ → Bool) → ℕ → ℕ → ℕ → Bool
+differsAt φ s e e′ = fitsAt φ s e′ && not (eqb (changeAt s e′) (changeAt s e))
 
--- The row that applies, with the place of the window, and for a correction whether another change fits.
-pub data Row : Type 0 where
-  clean : Row
-  dense : ℕ → Row
-  noFit : Row
-  corrected : ℕ → Found → Row
+-- ---- the decision: the first of document 01's four rows that applies
 
-abbrev pub fitRow : (ℕ → Found) → Found → Row
-fitRow other nowhere = noFit
-fitRow other (at e) = corrected e (other e)
+-- With the place of the window, and for a correction whether another change fits.
+pub data Decision : Type 0 where
+  clean : Decision
+  dense : ℕ → Decision
+  noFit : Decision
+  corrected : ℕ → Found → Decision
 
-abbrev pub denseRow : Found → Row → Row
-denseRow nowhere r = r
-denseRow (at e) r = dense e
+abbrev pub fitDecision : (ℕ → Found) → Found → Decision
+fitDecision other nowhere = noFit
+fitDecision other (at e) = corrected e (other e)
 
-abbrev pub cleanRow : Bool → Row → Row
-cleanRow true r = clean
-cleanRow false r = r
+abbrev pub denseDecision : Found → Decision → Decision
+denseDecision nowhere r = r
+denseDecision (at e) r = dense e
+
+abbrev pub cleanDecision : Bool → Decision → Decision
+cleanDecision true r = clean
+cleanDecision false r = r
 
 -- Of a syndrome that is not zero: no fit, or the fit of the lowest window that has one.
-unfoldable pub fitsRow : List ℕ → ℕ → Row
-fitsRow c s =
-    fitRow (λ e. highest (differsAt c s e) (suc (lastWindow c))) (highest (fitsAt c s) (suc (lastWindow c)))
+unfoldable pub fitsDecision : (ℕ → ℕ → Bool) → List ℕ → ℕ → Decision
+fitsDecision φ c s =
+    fitDecision (λ e. highest (differsAt φ s e) (suc (lastWindow c))) (highest (fitsAt φ s) (suc (lastWindow c)))
 
 -- Before that, whether a window is dense.
-unfoldable pub hitRow : List ℕ → ℕ → ℕ → Row
-hitRow c s l = denseRow (highest (denseAt c l) (suc (lastWindow c))) (fitsRow c s)
+unfoldable pub hitDecision : (ℕ → ℕ → Bool) → List ℕ → ℕ → ℕ → Decision
+hitDecision φ c s l = denseDecision (highest (denseAt c l) (suc (lastWindow c))) (fitsDecision φ c s)
 
 -- Before that, whether the message is clean.
-unfoldable pub rowOf : List ℕ → List ℕ → ℕ → ℕ → Row
-rowOf m c w l = cleanRow (eqb (syndrome m w) 0) (hitRow c (syndrome m w) l)
+unfoldable pub decisionOf : List ℕ → List ℕ → ℕ → ℕ → Decision
+decisionOf m c w l = cleanDecision (eqb (syndrome m w) 0) (hitDecision (passes c) c (syndrome m w) l)
 
--- sole is 1, several is 2
+-- ---- what a decision answers, and the message after it
+
 abbrev pub markNumber : Found → ℕ
-markNumber nowhere = 1
-markNumber (at e) = 2
+markNumber nowhere = soleMark
+markNumber (at e) = severalMark
 
--- The answer of a row: its number in document 01 and its values: the window; the window, the number of ones and the mark.
-abbrev pub rowAnswer : List ℕ → ℕ → Row → Outcome
-rowAnswer m s clean = answer 1 []
-rowAnswer m s (dense e) = answer 2 ((lastWindow m - e) ∷ [])
-rowAnswer m s noFit = answer 3 []
-rowAnswer m s (corrected e other) = answer 4 ((lastWindow m - e) ∷ ones (candidate s e) ∷ markNumber other ∷ [])
+abbrev pub decisionAnswer : List ℕ → ℕ → Decision → Outcome
+decisionAnswer m s clean = cleanAnswer
+decisionAnswer m s (dense e) = denseAnswer (lastWindow m - e)
+decisionAnswer m s noFit = noFitAnswer
+decisionAnswer m s (corrected e other) = correctedAnswer (lastWindow m - e) (ones (candidate s e)) (markNumber other)
 
--- The bytes of a number, and a message with bits inverted.
-unfoldable pub bytesOf : ℕ → ℕ → List ℕ
-bytesOf zero n = []
-bytesOf (suc k) n = n / 2 ^ (8 * k) % 2 ^ 8 ∷ bytesOf k n
-
-unfoldable pub inverted : List ℕ → ℕ → List ℕ
-inverted m d = bytesOf (length m) (bitXor (number m) d)
-
-abbrev pub rowMessage : List ℕ → ℕ → Row → List ℕ
-rowMessage m s clean = m
-rowMessage m s (dense e) = m
-rowMessage m s noFit = m
-rowMessage m s (corrected e other) = inverted m (changeAt s e)
+abbrev pub decisionMessage : List ℕ → ℕ → Decision → List ℕ
+decisionMessage m s clean = m
+decisionMessage m s (dense e) = m
+decisionMessage m s noFit = m
+decisionMessage m s (corrected e other) = inverted m (changeAt s e)
 
 -- ---- the call
 
@@ -132,21 +165,8 @@ checked n k w l a =
     (checkedNumbers w l a))
 
 unfoldable pub sensorOutcome : List ℕ → List ℕ → ℕ → ℕ → Outcome
-sensorOutcome m c w l = checked (length m) (length c) w l (rowAnswer m (syndrome m w) (rowOf m c w l))
+sensorOutcome m c w l = checked (length m) (length c) w l (decisionAnswer m (syndrome m w) (decisionOf m c w l))
 
 -- The message after the call: where it was refused, as it was before.
 unfoldable pub sensorAfter : List ℕ → List ℕ → ℕ → ℕ → List ℕ
-sensorAfter m c w l = left (sensorOutcome m c w l) m (rowMessage m (syndrome m w) (rowOf m c w l))
-
--- ---- what a Verdict says
-
-abbrev pub markOf : Mark → ℕ
-markOf Sole = 1
-markOf Several = 2
-
-abbrev pub said : Verdict → Outcome
-said Clean = answer 1 []
-said (Dense w) = answer 2 (w ∷ [])
-said NoFit = answer 3 []
-said (Corrected k) = answer 4 (k .window ∷ k .bits ∷ markOf (k .mark) ∷ [])
-said (Refused n) = refusal n
+sensorAfter m c w l = left (sensorOutcome m c w l) m (decisionMessage m (syndrome m w) (decisionOf m c w l))

@@ -4,7 +4,7 @@
 ghost use Prim.Native.Nat.{_+_, _≤_, _%_, suc};
 ghost use mathlib.Core.Path.{_≡_};
 ghost use lib.ListN.{length};
-ghost use Rattle.sensor.specs.Changes.{lastWindow};
+ghost use Rattle.message.specs.Bits.{lastWindow};
 ghost use Rattle.sensor.specs.Verdicts.{denseAt, firstOf, highest};
 ghost use Rattle.sensor.specs.Searching.{foundOf};
 

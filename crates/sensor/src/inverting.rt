@@ -2,8 +2,7 @@
 ghost use Prim.Native.Nat.{_<_, _≤_, _*_, _^_};
 ghost use mathlib.Core.Path.{_≡_};
 ghost use lib.ListN.{length};
-ghost use Rattle.sensor.specs.Changes.{lastWindow};
-ghost use Rattle.sensor.specs.Verdicts.{inverted};
+ghost use Rattle.message.specs.Bits.{lastWindow, inverted};
 
 // Adds the pattern to the window at a place.
 pub(crate) fn invert(m: &mut [u8], pattern: u32, place: usize)

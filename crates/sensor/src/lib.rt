@@ -5,16 +5,16 @@
 ghost use Prim.Native.Nat.{_<_, _≤_, _^_, _-_, _*_};
 ghost use mathlib.Core.Path.{_≡_};
 ghost use mathlib.Core.Bool.{true};
-ghost use mathlib.Core.List.{[]};
 ghost use lib.ListN.{length};
-ghost use Rattle.division.specs.Answers.Outcome.{answer};
+ghost use Rattle.outcome.specs.Outcomes.{done, admission};
 ghost use Rattle.message.specs.Message.{isMessageLength};
-ghost use Rattle.sensor.specs.Verdicts.{said, markOf, syndrome, fitsRow, hitRow, rowOf, rowAnswer, rowMessage, checkedNumbers, checked, sensorOutcome, sensorAfter};
-ghost use Rattle.sensor.specs.Searching.{checkSaid, markFor};
+ghost use Rattle.sensor.specs.Verdicts.{said, markOf, syndrome, passes, fitsDecision, hitDecision, decisionOf, decisionAnswer, decisionMessage, checkedNumbers, checked, sensorOutcome, sensorAfter};
+ghost use Rattle.sensor.specs.Searching.{markFor};
 use density::Spot;
 use density::highest_dense;
 use inverting::invert;
-use reply::remainder_of;
+use outcome::Admission;
+use reply::reply_remainder;
 use search::all_fits;
 
 mod density;
@@ -44,12 +44,6 @@ pub enum Verdict {
     Refused(u32),
 }
 
-// Passed, or the number of the refusal.
-pub(crate) enum Admission {
-    Passed,
-    Refused(u32),
-}
-
 // Says what a reply is, and corrects it where its low-confidence bits allow.
 pub fn correct(m: &mut [u8], c: &[u8], word: u32, limit: u32) -> Verdict
     ensures { λ r. ⌜ said r ≡ sensorOutcome (now (m .entry)) (now (c .entry)) word limit ⌝ }
@@ -64,7 +58,7 @@ pub fn correct(m: &mut [u8], c: &[u8], word: u32, limit: u32) -> Verdict
 
 // Whether a call is refused, and by which row.
 fn check(n: usize, k: usize, word: u32, limit: u32) -> Admission
-    ensures { λ r. ⌜ checkSaid r ≡ checked n k word limit (answer 0 []) ⌝ }
+    ensures { λ r. ⌜ admission r ≡ checked n k word limit done ⌝ }
 {
     if message::is_message_length(n) {
         if k == n {
@@ -78,7 +72,7 @@ fn check(n: usize, k: usize, word: u32, limit: u32) -> Admission
 }
 
 fn check_numbers(word: u32, limit: u32) -> Admission
-    ensures { λ r. ⌜ checkSaid r ≡ checkedNumbers word limit (answer 0 []) ⌝ }
+    ensures { λ r. ⌜ admission r ≡ checkedNumbers word limit done ⌝ }
 {
     if message::is_word(word) {
         if limit <= 24 {
@@ -91,15 +85,15 @@ fn check_numbers(word: u32, limit: u32) -> Admission
     }
 }
 
-// The rows of a call that is not refused.
+// The decision on a call that is not refused.
 fn judge(m: &mut [u8], c: &[u8], word: u32, limit: u32) -> Verdict
     requires { ⌜ isMessageLength (length (now m)) ≡ true ⌝ }
     requires { ⌜ length (now c) ≡ length (now m) ⌝ }
     requires { ⌜ word < 2 ^ 24 ⌝ }
-    ensures { λ r. ⌜ said r ≡ rowAnswer (now (m .entry)) (syndrome (now (m .entry)) word) (rowOf (now (m .entry)) (now (c .entry)) word limit) ⌝ }
-    ensures { λ r. ⌜ now (m .exit) ≡ rowMessage (now (m .entry)) (syndrome (now (m .entry)) word) (rowOf (now (m .entry)) (now (c .entry)) word limit) ⌝ }
+    ensures { λ r. ⌜ said r ≡ decisionAnswer (now (m .entry)) (syndrome (now (m .entry)) word) (decisionOf (now (m .entry)) (now (c .entry)) word limit) ⌝ }
+    ensures { λ r. ⌜ now (m .exit) ≡ decisionMessage (now (m .entry)) (syndrome (now (m .entry)) word) (decisionOf (now (m .entry)) (now (c .entry)) word limit) ⌝ }
 {
-    let s = remainder_of(m) ^ word;
+    let s = reply_remainder(m) ^ word;
     if s == 0 {
         Verdict::Clean
     } else {
@@ -107,13 +101,13 @@ fn judge(m: &mut [u8], c: &[u8], word: u32, limit: u32) -> Verdict
     }
 }
 
-// The rows of a reply whose syndrome is not zero.
+// The decision on a reply whose syndrome is not zero.
 fn judge_hit(m: &mut [u8], c: &[u8], s: u32, limit: u32) -> Verdict
     requires { ⌜ isMessageLength (length (now m)) ≡ true ⌝ }
     requires { ⌜ length (now c) ≡ length (now m) ⌝ }
     requires { ⌜ (0 < s) × (s < 2 ^ 24) ⌝ }
-    ensures { λ r. ⌜ said r ≡ rowAnswer (now (m .entry)) s (hitRow (now (c .entry)) s limit) ⌝ }
-    ensures { λ r. ⌜ now (m .exit) ≡ rowMessage (now (m .entry)) s (hitRow (now (c .entry)) s limit) ⌝ }
+    ensures { λ r. ⌜ said r ≡ decisionAnswer (now (m .entry)) s (hitDecision (passes (now (c .entry))) (now (c .entry)) s limit) ⌝ }
+    ensures { λ r. ⌜ now (m .exit) ≡ decisionMessage (now (m .entry)) s (hitDecision (passes (now (c .entry))) (now (c .entry)) s limit) ⌝ }
 {
     let dense = highest_dense(c, limit);
     match dense {
@@ -127,8 +121,8 @@ fn mend(m: &mut [u8], c: &[u8], s: u32) -> Verdict
     requires { ⌜ isMessageLength (length (now m)) ≡ true ⌝ }
     requires { ⌜ length (now c) ≡ length (now m) ⌝ }
     requires { ⌜ (0 < s) × (s < 2 ^ 24) ⌝ }
-    ensures { λ r. ⌜ said r ≡ rowAnswer (now (m .entry)) s (fitsRow (now (c .entry)) s) ⌝ }
-    ensures { λ r. ⌜ now (m .exit) ≡ rowMessage (now (m .entry)) s (fitsRow (now (c .entry)) s) ⌝ }
+    ensures { λ r. ⌜ said r ≡ decisionAnswer (now (m .entry)) s (fitsDecision (passes (now (c .entry))) (now (c .entry)) s) ⌝ }
+    ensures { λ r. ⌜ now (m .exit) ≡ decisionMessage (now (m .entry)) s (fitsDecision (passes (now (c .entry))) (now (c .entry)) s) ⌝ }
 {
     let found = all_fits(c, s);
     let changes = found.changes;

@@ -6,7 +6,7 @@ ghost use Rattle.division.specs.Division.{remainder};
 ghost use Rattle.message.specs.Message.{number, isMessageLength};
 use division::Word;
 
-pub(crate) fn remainder_of(m: &[u8]) -> u32
+pub(crate) fn reply_remainder(m: &[u8]) -> u32
     requires { ⌜ isMessageLength (length (now m)) ≡ true ⌝ }
     ensures { λ r. ⌜ r ≡ remainder (number (now (m .entry))) ⌝ }
 {

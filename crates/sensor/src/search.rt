@@ -7,7 +7,8 @@ ghost use mathlib.Core.Path.{_≡_};
 ghost use lib.Dec.{eqb};
 ghost use lib.ListN.{length};
 ghost use Rattle.division.specs.Division.{backward};
-ghost use Rattle.sensor.specs.Changes.{lastWindow};
+ghost use Rattle.message.specs.Bits.{lastWindow};
+ghost use Rattle.sensor.specs.Verdicts.{passes};
 ghost use Rattle.sensor.specs.Searching.{Sound, noted, kept, visited, searchTo};
 use division::Word;
 
@@ -24,7 +25,7 @@ pub(crate) struct Search {
 pub(crate) fn all_fits(c: &[u8], syndrome: u32) -> Search
     requires { ⌜ (3 ≤ length (now c)) × (length (now c) ≤ 14) ⌝ }
     requires { ⌜ (0 < syndrome) × (syndrome < 2 ^ 24) ⌝ }
-    ensures { λ r. ⌜ r ≡ searchTo (now (c .entry)) syndrome (suc (lastWindow (now (c .entry)))) ⌝ }
+    ensures { λ r. ⌜ r ≡ searchTo (passes (now (c .entry))) syndrome (suc (lastWindow (now (c .entry)))) ⌝ }
 {
     let count = c.len() * 8 - 23;
     let mut state = Search {
@@ -46,7 +47,7 @@ fn visit(state: Search, c: &[u8], place: usize) -> Search
     requires { ⌜ (3 ≤ length (now c)) × (length (now c) ≤ 14) ⌝ }
     requires { ⌜ place ≤ lastWindow (now c) ⌝ }
     requires { ⌜ Sound state place ⌝ }
-    ensures { λ r. ⌜ r ≡ visited (now (c .entry)) state place ⌝ }
+    ensures { λ r. ⌜ r ≡ visited (passes (now (c .entry))) state place ⌝ }
 {
     let pattern = state.candidate;
     let window = c.len() * 8 - 24 - place;

@@ -6,7 +6,7 @@ use native.Mathlib.Numerals.{add-one}
 use native.Mathlib.Nat.{add-zero}
 use native.Mathlib.Omega.{arith}
 use lib.ListN.{length, take, drop, set, length-set, length-append}
-use lib.Seq.{sets, sets-eq, take-at}
+use lib.Seq.{sets, sets-eq, take-at, length-take-le}
 use lib.Dec.{ltb}
 use borrow.Author.Tests.{lt-ltb, le-ltb}
 use Rattle.text.specs.Output.{Place, appendByte, append}
@@ -18,8 +18,8 @@ append-append p [] t = refl
 append-append p (b ∷ s) t = append-append (appendByte p b) s t
 
 -- a text and then another
-pub after : (p q r : Place) (s t : List ℕ) → q ≡ append p s → r ≡ append q t → r ≡ append p (s ++ t)
-after p q r s t e f = f ∙ ap (λ (x : Place). append x t) e ∙ append-append p s t
+pub and-then : (p q r : Place) (s t : List ℕ) → q ≡ append p s → r ≡ append q t → r ≡ append p (s ++ t)
+and-then p q r s t e f = f ∙ ap (λ (x : Place). append x t) e ∙ append-append p s t
 
 -- what is left to append when the first part of it has been appended
 pub part-done : (p q : Place) (s t u : List ℕ) → q ≡ append p s → u ≡ s ++ t → append q t ≡ append p u
@@ -74,3 +74,6 @@ pub taken-le : (s buf last : List ℕ) (n : ℕ) → length s ≤ length buf →
 taken-le s buf last n h e =
     let f = at-start s buf last n h e in
     omega (arith, f .0, ap length (f .1), length-append s (drop (length s) buf))
+
+pub taken-size : (s buf last : List ℕ) (n : ℕ) → length s ≤ length buf → (last, n) ≡ append (buf, 0) s → n ≡ length (take n last)
+taken-size s buf last n h e = sym (length-take-le n last (taken-le s buf last n h e))

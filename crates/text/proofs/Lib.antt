@@ -1,5 +1,5 @@
--- The laws of the text library.
+-- The laws of text as it is written.
 pub mod Parts
 pub mod Appending
-pub mod Splitting
 pub mod Spelling
+pub mod Laws

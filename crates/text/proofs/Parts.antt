@@ -2,11 +2,10 @@
 use mathlib.Core.Path.{_≡_, sym, ap, _∙_}
 use mathlib.Core.Bool.{Bool, true, false, cond}
 use mathlib.Core.List.{List, [], _∷_}
-use Prim.Native.Nat.{ℕ, _+_, _-_, _<_, _≤_}
+use Prim.Native.Nat.{ℕ, _+_, _<_, _≤_}
 use native.Mathlib.Numerals.{add-one}
-use native.Mathlib.Omega.{arith}
-use lib.ListN.{length, getD, take, drop, length-drop, drop-of-length-le}
-use lib.Seq.{drop-cons, take-all}
+use lib.ListN.{length, getD, drop, drop-of-length-le}
+use lib.Seq.{drop-cons}
 
 -- what is left at a place is the byte there and what is left at the next
 pub next-byte : (s : List ℕ) (i : ℕ) → i < length s → drop i s ≡ getD s i 0 ∷ drop (i + 1) s
@@ -14,10 +13,6 @@ next-byte s i h = drop-cons s i 0 h ∙ ap (λ (n : ℕ). getD s i 0 ∷ drop n 
 
 pub no-more : (s : List ℕ) (i : ℕ) → length s ≤ i → drop i s ≡ []
 no-more s i h = drop-of-length-le s h
-
--- the part of a slice from a place on
-pub part-from : (s : List ℕ) (i : ℕ) → take (length s - i) (drop i s) ≡ drop i s
-part-from s i = take-all (length s - i) (drop i s) (omega (arith, length-drop i s))
 
 pub picked : {A : Type 0} (t : Bool) (a b : A) → t ≡ true → cond t a b ≡ a
 picked t a b e = ap (λ (t : Bool). cond t a b) e

@@ -1,4 +1,4 @@
--- Digits: of a value below 16, of bytes, and of a number.
+-- The digits of a value below 16, of bytes, and of a number.
 use mathlib.Core.Path.{_≡_, refl, sym, ap, _∙_}
 use mathlib.Core.Bool.{Bool, true, false, cond}
 use mathlib.Core.List.{List, [], _∷_, _++_}
@@ -40,7 +40,7 @@ hexText-length (b ∷ s) = omega (arith, hexText-length s)
 -- ---- decimal digits
 
 -- a bound on the number of digits that is large enough changes nothing
-pub decimal-bound : (k m n : ℕ) → n < k → n < m → decimalWithin k n ≡ decimalWithin m n
+decimal-bound : (k m n : ℕ) → n < k → n < m → decimalWithin k n ≡ decimalWithin m n
 unfolding decimalWithin
 decimal-bound zero m n h j = absurd (omega arith)
 decimal-bound (suc k) zero n h j = absurd (omega arith)

@@ -1,5 +1,5 @@
--- What a reader must believe of text, written (this crate) and read (the crate reading), in this order.
-pub mod Quoted
-pub mod Lines
+-- What a reader must believe of text as it is written, in this order. What lines, columns and digits mean where they are
+-- read is in the crate reading.
+pub mod Ascii
 pub mod Digits
 pub mod Output

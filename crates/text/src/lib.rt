@@ -1,5 +1,5 @@
-// Text as programs write it: appending bytes, capital hexadecimal digits and decimal digits to a buffer. Beside that,
-// specs/ defines what the crate `reading` reads: lines, columns and the values of digits.
+// Text as programs write it: appending bytes, capital hexadecimal digits and decimal digits to a buffer. The crate
+// `reading` is for text as programs read it.
 //
 // Every public function takes any input. Its contract gives the result and the lent buffer by a definition of specs/.
 // The function takes the number of bytes of the buffer that are taken already and answers the number that are taken

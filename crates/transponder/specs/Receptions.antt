@@ -4,10 +4,11 @@ use mathlib.Core.List.{List, [], _∷_}
 use mathlib.Core.Bool.{Bool, cond, not, _&&_, _||_}
 use lib.Dec.{eqb}
 use lib.ListN.{length}
+use Rattle.outcome.specs.Outcomes.{Outcome, unless}
+use Rattle.outcome.specs.Outcomes.Outcome.{refusal, answer}
+use Rattle.outcome.specs.Refusals.{wrongLength, wordTooLarge, firstBitContradicts, ownAddressReserved}
 use Rattle.division.specs.Division.{addressRead}
 use Rattle.message.specs.Message.{number, formatNumber, isMessageLength, firstBitAgrees, isWord}
-use Rattle.division.specs.Answers.{Outcome, unless, wrongLength, wordTooLarge, firstBitContradicts, ownAddressReserved}
-use Rattle.division.specs.Answers.Outcome.{refusal, answer}
 use Rattle.transponder.specs.declared.Reception.{Reception}
 use Rattle.transponder.specs.declared.Reception.the-variants.{Own, AllCall, NotOurs, Refused}
 
@@ -19,29 +20,29 @@ everyone = 0xFFFFFF
 abbrev pub allCallFormat : ℕ
 allCallFormat = 11
 
--- The three answers, with document 01's numbers in the order of its list: own is 1; all-call is 2; not ours, with the
--- address read, is 3.
-unfoldable pub reading : ℕ → ℕ → ℕ → Outcome
-reading own address format =
-    cond (eqb address own) (answer 1 [])
-    (cond (eqb address everyone && eqb format allCallFormat) (answer 2 [])
-    (answer 3 (address ∷ [])))
+-- What a Reception says: document 01's answers, numbered in the order of its list; not ours has the address read.
+abbrev pub said : Reception → Outcome
+said Own = answer 1 []
+said AllCall = answer 2 []
+said (NotOurs a) = answer 3 (a ∷ [])
+said (Refused n) = refusal n
+
+-- The answer by the own address, the address read and the format number.
+unfoldable pub receptionOf : ℕ → ℕ → ℕ → Reception
+receptionOf own address format =
+    cond (eqb address own) Own
+    (cond (eqb address everyone && eqb format allCallFormat) AllCall
+    (NotOurs address))
 
 -- The own address is neither 000000 nor FFFFFF (row 6).
 unfoldable pub isReserved : ℕ → Bool
 isReserved own = eqb own 0 || eqb own everyone
 
--- What the transponder answers: rows 1, 3, 5 and 6 of the refusals, or what it reads.
+-- What the transponder answers: rows 1, 3, 5 and 6 of the refusals, or what it makes of the address read.
 unfoldable pub receptionOutcome : ℕ → List ℕ → Outcome
 receptionOutcome own m =
     unless (isMessageLength (length m)) wrongLength
     (unless (isWord own) wordTooLarge
     (unless (firstBitAgrees m) firstBitContradicts
     (unless (not (isReserved own)) ownAddressReserved
-    (reading own (addressRead (number m)) (formatNumber m)))))
-
-abbrev pub said : Reception → Outcome
-said Own = answer 1 []
-said AllCall = answer 2 []
-said (NotOurs a) = answer 3 (a ∷ [])
-said (Refused n) = refusal n
+    (said (receptionOf own (addressRead (number m)) (formatNumber m))))))

@@ -6,7 +6,7 @@ ghost use mathlib.Core.Bool.{true};
 ghost use lib.ListN.{length};
 ghost use Rattle.division.specs.Division.{addressRead};
 ghost use Rattle.message.specs.Message.{number, isMessageLength, isWord};
-ghost use Rattle.transponder.specs.Receptions.{said, reading, isReserved, receptionOutcome};
+ghost use Rattle.transponder.specs.Receptions.{said, receptionOf, isReserved, receptionOutcome};
 use division::Word;
 
 // What a transponder makes of an interrogation: its own, an all-call, not its own with the address read, or the number
@@ -52,7 +52,7 @@ fn receive_whole(own: u32, m: &[u8]) -> Reception
 
 // The answer by the address read and the format number.
 fn judge(own: u32, address: u32, format: u32) -> Reception
-    ensures { λ r. ⌜ said r ≡ reading own address format ⌝ }
+    ensures { λ r. ⌜ r ≡ receptionOf own address format ⌝ }
 {
     if address == own {
         return Reception::Own;

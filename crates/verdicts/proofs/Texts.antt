@@ -1,28 +1,47 @@
 -- The texts that the functions append, as columns, and their lengths.
-use mathlib.Core.Path.{_≡_, refl, sym, ap, _∙_}
+use mathlib.Core.Path.{_≡_, refl, sym, ap, _∙_, subst}
 use mathlib.Core.List.{List, [], _∷_, _++_, append-assoc, append-nil}
 use Prim.Native.Nat.{ℕ, _≤_}
 use native.Mathlib.Omega.{arith}
 use lib.ListN.{length, length-append}
 use lib.Dec.{eqb}
 use mathlib.Core.Bool.{Bool, true, false, cond}
-use Rattle.text.specs.Quoted.{ascii}
-use Rattle.text.specs.Lines.{space}
+use Rattle.text.specs.Ascii.{ascii, space}
 use Rattle.text.specs.Digits.{decimalText}
-use Rattle.division.specs.Answers.Outcome.{refusal, answer}
+use Rattle.text.specs.Output.{Place, append}
+use Rattle.outcome.specs.Outcomes.Outcome.{refusal}
+use Rattle.sensor.specs.Verdicts.{soleMark, severalMark, cleanAnswer, denseAnswer, noFitAnswer, correctedAnswer, said, markOf}
+use Rattle.sensor.specs.declared.Mark.{Mark}
+use Rattle.sensor.specs.declared.Verdict.{Verdict}
 use Rattle.verdicts.specs.Columns.{answerWord, markWord, outcomeColumns, spaced}
+
+-- ---- columns
+
+pub spaced-nil : spaced [] ≡ []
+unfolding spaced
+spaced-nil = refl
+
+pub spaced-cons : (c : List ℕ) (cs : List (List ℕ)) → spaced (c ∷ cs) ≡ space ∷ c ++ spaced cs
+unfolding spaced
+spaced-cons c cs = refl
+
+pub spaced-append : (cs ds : List (List ℕ)) → spaced (cs ++ ds) ≡ spaced cs ++ spaced ds
+unfolding spaced
+spaced-append [] ds = refl
+spaced-append (c ∷ cs) ds =
+    ap (λ (t : List ℕ). (space ∷ c) ++ t) (spaced-append cs ds) ∙ sym (append-assoc (space ∷ c) (spaced cs) (spaced ds))
 
 -- ---- verdicts
 
-pub clean-text : ascii " clean - - -" ≡ spaced (outcomeColumns (answer 1 []))
+pub clean-text : ascii " clean - - -" ≡ spaced (outcomeColumns cleanAnswer)
 unfolding spaced outcomeColumns answerWord
 clean-text = refl
 
-pub nofit-text : ascii " nofit - - -" ≡ spaced (outcomeColumns (answer 3 []))
+pub nofit-text : ascii " nofit - - -" ≡ spaced (outcomeColumns noFitAnswer)
 unfolding spaced outcomeColumns answerWord
 nofit-text = refl
 
-pub dense-text : (w : ℕ) → ascii " dense " ++ decimalText w ++ ascii " - -" ≡ spaced (outcomeColumns (answer 2 (w ∷ [])))
+pub dense-text : (w : ℕ) → ascii " dense " ++ decimalText w ++ ascii " - -" ≡ spaced (outcomeColumns (denseAnswer w))
 unfolding spaced outcomeColumns answerWord
 dense-text w = refl
 
@@ -32,7 +51,7 @@ refused-text n = refl
 
 pub corrected-text : (w b m : ℕ)
     → ascii " corrected " ++ decimalText w ++ (space ∷ []) ++ decimalText b ++ (space ∷ markWord m)
-    ≡ spaced (outcomeColumns (answer 4 (w ∷ b ∷ m ∷ [])))
+    ≡ spaced (outcomeColumns (correctedAnswer w b m))
 unfolding spaced outcomeColumns answerWord
 corrected-text w b m =
     append-assoc (ascii " corrected " ++ decimalText w ++ (space ∷ [])) (decimalText b) (space ∷ markWord m)
@@ -40,19 +59,19 @@ corrected-text w b m =
     ∙ append-assoc (ascii " corrected ") (decimalText w) (space ∷ (decimalText b ++ (space ∷ markWord m)))
     ∙ ap (λ (t : List ℕ). ascii " corrected " ++ (decimalText w ++ (space ∷ (decimalText b ++ (space ∷ t))))) (sym (append-nil (markWord m)))
 
-pub sole-text : ascii " sole" ≡ space ∷ markWord 1
+pub sole-text : ascii " sole" ≡ space ∷ markWord soleMark
 unfolding markWord
 sole-text = refl
 
-pub several-text : ascii " several" ≡ space ∷ markWord 2
+pub several-text : ascii " several" ≡ space ∷ markWord severalMark
 unfolding markWord
 several-text = refl
 
--- ---- lengths of verdicts, where a number has at most ten digits
+-- ---- lengths of verdicts, where a number has at most ten digits (src/lib.rt says why 40)
 
 markWord-length : (m : ℕ) → length (markWord m) ≤ 7
 unfolding markWord
-markWord-length m = cases (eqb m 1)
+markWord-length m = cases (eqb m soleMark)
   where
     cases : (t : Bool) → length (cond t (ascii "sole") (ascii "several")) ≤ 7
     cases true = omega arith
@@ -73,3 +92,16 @@ corrected-length w b m h k =
       length-append (ascii " corrected " ++ decimalText w ++ (space ∷ []) ++ decimalText b) (space ∷ markWord m),
       markWord-length m,
     )
+
+-- ---- one case of a match: v is the case x, and t, the text of x, was appended
+
+pub verdict-written : (start q : Place) (v x : Verdict) (t : List ℕ) → v ≡ x → t ≡ spaced (outcomeColumns (said x))
+    → q ≡ append start t → length t ≤ 40
+    → (q ≡ append start (spaced (outcomeColumns (said v)))) × (length (spaced (outcomeColumns (said v))) ≤ 40)
+verdict-written start q v x t e f p h =
+    let text : t ≡ spaced (outcomeColumns (said v)) = f ∙ ap (λ (y : Verdict). spaced (outcomeColumns (said y))) (sym e) in
+    (p ∙ ap (append start) text, subst (λ (l : List ℕ). length l ≤ 40) text h)
+
+pub mark-written : (start q : Place) (m x : Mark) (t : List ℕ) → m ≡ x → t ≡ space ∷ markWord (markOf x)
+    → q ≡ append start t → q ≡ append start (space ∷ markWord (markOf m))
+mark-written start q m x t e f p = p ∙ ap (append start) (f ∙ ap (λ (y : Mark). space ∷ markWord (markOf y)) (sym e))

@@ -5,20 +5,36 @@ use mathlib.Core.List.{List, [], _∷_, _++_}
 use mathlib.Core.Bool.{cond}
 use lib.ListN.{drop}
 use lib.Dec.{eqb}
-use Rattle.text.specs.Quoted.{ascii}
-use Rattle.text.specs.Lines.{space}
+use Rattle.text.specs.Ascii.{ascii, space}
 use Rattle.text.specs.Digits.{decimalText}
-use Rattle.division.specs.Answers.{Outcome}
-use Rattle.division.specs.Answers.Outcome.{refusal, answer}
+use Rattle.outcome.specs.Outcomes.{Outcome}
+use Rattle.outcome.specs.Outcomes.Outcome.{refusal, answer}
+use Rattle.sensor.specs.Verdicts.{cleanAnswer, denseAnswer, noFitAnswer, soleMark}
 
--- rows 1 to 4 of 'Sensor'
+-- The numbers of the sensor's answers, which do not hang on their values.
+abbrev pub numberOf : Outcome → ℕ
+numberOf (refusal n) = n
+numberOf (answer n values) = n
+
+abbrev pub cleanNumber : ℕ
+cleanNumber = numberOf cleanAnswer
+
+abbrev pub denseNumber : ℕ
+denseNumber = numberOf (denseAnswer 0)
+
+abbrev pub noFitNumber : ℕ
+noFitNumber = numberOf noFitAnswer
+
+-- The word for the number of an answer: any other than these three is a correction's.
 unfoldable pub answerWord : ℕ → List ℕ
-answerWord row =
-    cond (eqb row 1) (ascii "clean") (cond (eqb row 2) (ascii "dense") (cond (eqb row 3) (ascii "nofit") (ascii "corrected")))
+answerWord n =
+    cond (eqb n cleanNumber) (ascii "clean")
+    (cond (eqb n denseNumber) (ascii "dense")
+    (cond (eqb n noFitNumber) (ascii "nofit") (ascii "corrected")))
 
--- the number of a mark: sole is 1, several 2
+-- The word for a mark of a correction, sole or several.
 unfoldable pub markWord : ℕ → List ℕ
-markWord mark = cond (eqb mark 1) (ascii "sole") (ascii "several")
+markWord mark = cond (eqb mark soleMark) (ascii "sole") (ascii "several")
 
 -- '`-` fills what an answer lacks'
 abbrev pub lacking : List ℕ
@@ -32,8 +48,8 @@ column text (v ∷ vs) = text v
 -- an answer's values are the window, the bits changed and the mark, as far as it has them
 unfoldable pub outcomeColumns : Outcome → List (List ℕ)
 outcomeColumns (refusal n) = ascii "refused" ∷ decimalText n ∷ lacking ∷ lacking ∷ []
-outcomeColumns (answer row values) =
-    answerWord row ∷ column decimalText values ∷ column decimalText (drop 1 values) ∷ column markWord (drop 2 values) ∷ []
+outcomeColumns (answer n values) =
+    answerWord n ∷ column decimalText values ∷ column decimalText (drop 1 values) ∷ column markWord (drop 2 values) ∷ []
 
 -- columns after the first of a line, each after one space
 unfoldable pub spaced : List (List ℕ) → List ℕ

@@ -3,13 +3,13 @@
 //
 // Each function appends to the output buffer: it takes the number of bytes taken already, answers the number taken
 // then, and its contract names the text it appends. `write_verdict` names it by definitions of specs/Columns.antt, and
-// its second promise bounds the text.
+// its second promise bounds the text: the longest has ` corrected `, two numbers of ten digits with a space between them,
+// and ` several`, which are 11 + 21 + 8 bytes.
 ghost use Prim.Native.Nat.{_≤_};
 ghost use mathlib.Core.Path.{_≡_};
 ghost use mathlib.Core.List.{[], _∷_, _++_};
 ghost use lib.ListN.{length};
-ghost use Rattle.text.specs.Quoted.{ascii};
-ghost use Rattle.text.specs.Lines.{space};
+ghost use Rattle.text.specs.Ascii.{ascii, space};
 ghost use Rattle.text.specs.Digits.{decimalText};
 ghost use Rattle.text.specs.Output.{append};
 ghost use Rattle.sensor.specs.Verdicts.{said, markOf};

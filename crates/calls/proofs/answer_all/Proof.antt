@@ -10,10 +10,10 @@ use Rattle.calls.proofs.answer_all.Statement.{statement}
 use Rattle.calls.proofs.answer_all.Tie as tie
 
 abbrev Inv-loop : tie.InvT-loop
-Inv-loop input out₀ at₀ number₀ taken₀ out at number taken = (number ≤ at) × (length out ≡ length out₀)
+Inv-loop input out₀ at₀ number₀ taken₀ written₀ out at number taken written = (number ≤ at) × (length out ≡ length out₀)
 
 abbrev μ-loop : tie.MeasureT-loop
-μ-loop input out₀ at₀ number₀ taken₀ out at number taken = length input - at
+μ-loop input out₀ at₀ number₀ taken₀ written₀ out at number taken written = length input - at
 
 left : (s : List ℕ) (a : ℕ) → length (take (length s - a) (drop a s)) ≡ length s - a
 left s a = simp (length-take, length-drop) (omega arith)

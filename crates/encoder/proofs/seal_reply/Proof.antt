@@ -4,8 +4,8 @@ use mathlib.Core.List.{List}
 use Prim.Native.Nat.{ℕ}
 use borrow.Author.Needs.{needs}
 use Rattle.encoder.specs.Seals.{replyParity, replySeal, replyAfter}
-use Rattle.division.proofs.Laws.{left-of}
-use Rattle.encoder.proofs.Sealing.{was-accepted, sealed-said, refused-said}
+use Rattle.outcome.proofs.Laws.{passed-said, refused-said, left-of}
+use Rattle.encoder.proofs.Sealing.{was-accepted}
 use Rattle.encoder.proofs.seal_reply.Statement.{statement}
 use Rattle.encoder.proofs.seal_reply.Tie as tie
 
@@ -20,7 +20,7 @@ enum-told c = search needs
 
 write-parity-requires : tie.Need-write-parity-requires
 write-parity-requires c κs =
-    let ok = was-accepted _ _ (sym (sealed-said _ _ (c .before .enum-told .given .1) (c .before .before .before .check .ensures))) in
+    let ok = was-accepted _ _ (sym (passed-said _ _ (c .before .enum-told .given .1) (c .before .before .before .check .ensures))) in
     (ok .0, ok .1)
 
 same-length : tie.Need-same-length
@@ -39,7 +39,7 @@ returns-2 : tie.Need-returns-2
 unfolding replyAfter replySeal replyParity
 returns-2 c =
     let m : List ℕ = c .before .before .before .before .before .before .before .before .before .args .m .now in
-    let e = sealed-said _ _ (c .before .before .before .before .enum-told .given .1) (c .before .before .before .before .before .before .check .ensures) in
+    let e = passed-said _ _ (c .before .before .before .before .enum-told .given .1) (c .before .before .before .before .before .before .check .ensures) in
     (e, c .before .before .write-parity .ensures ∙ left-of _ _ _ _ e)
 
 pub seal-reply-spec : {M : Type 1} → statement M

@@ -12,7 +12,8 @@ use borrow.Author.Needs.{needs}
 use Rattle.division.specs.Division.{parity}
 use Rattle.message.specs.Message.{number}
 use Rattle.division.proofs.Laws.{parity-lt}
-use Rattle.message.proofs.Laws.{message-length-ge, field-is-field, part-from, field-is}
+use Rattle.outcome.proofs.Laws.{part-from}
+use Rattle.message.proofs.Laws.{message-length-ge, field-is-field, field-is}
 use Rattle.encoder.specs.Seals.{wordBytes, withParity}
 use Rattle.encoder.proofs.Sealing.{written}
 use Rattle.encoder.proofs.write_parity.Statement.{statement}

@@ -4,10 +4,10 @@ use mathlib.Core.List.{List, _++_}
 use Prim.Native.Nat.{ℕ, _≤_, _<_}
 use native.Mathlib.Omega.{arith}
 use lib.ListN.{length}
-use Rattle.text.specs.Quoted.{ascii}
-use Rattle.text.specs.Lines.{lines}
+use Rattle.text.specs.Ascii.{ascii}
+use Rattle.reading.specs.Lines.{lines}
 use Rattle.text.specs.Output.{Place, append}
-use Rattle.text.proofs.Appending.{after}
+use Rattle.text.proofs.Laws.{and-then}
 use Rattle.report.specs.Sift.{header, outputLines, siftOutput}
 use Rattle.report.proofs.Texts.{output-read, output-too-long, output-length}
 use Rattle.report.proofs.write_output.Statement.{statement}
@@ -42,7 +42,7 @@ returns c =
     let two : (last .last .0, last .result) ≡ append (first .last .0, first .result) (outputLines 1 (lines input)) = last .ensures .0 in
     let small : length input ≤ 65536 = omega arith in
     let text : header ++ (outputLines 1 (lines input)) ≡ siftOutput input = output-read input small in (
-      after start (first .last .0, first .result) (last .last .0, last .result) header (outputLines 1 (lines input)) one two ∙ ap (append start) text,
+      and-then start (first .last .0, first .result) (last .last .0, last .result) header (outputLines 1 (lines input)) one two ∙ ap (append start) text,
       output-length input small (last .ensures .1),
     )
 
@@ -60,7 +60,7 @@ returns-2 c =
     let two : (last .last .0, last .result) ≡ append (first .last .0, first .result) (ascii "too long\n") = last .ensures in
     let large : 65536 < length input = omega arith in
     let text : header ++ (ascii "too long\n") ≡ siftOutput input = output-too-long input large in (
-      after start (first .last .0, first .result) (last .last .0, last .result) header (ascii "too long\n") one two ∙ ap (append start) text,
+      and-then start (first .last .0, first .result) (last .last .0, last .result) header (ascii "too long\n") one two ∙ ap (append start) text,
       omega (arith, ap length text),
     )
 

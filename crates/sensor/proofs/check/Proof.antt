@@ -2,8 +2,9 @@
 use mathlib.Core.Path.{sym, _∙_}
 use borrow.Author.Tests.{eq-eqb, ne-eqb}
 use borrow.Author.Needs.{needs}
-use Rattle.division.specs.Answers.Outcome.{refusal}
-use Rattle.division.proofs.Laws.{refused, passed}
+use Rattle.outcome.specs.Outcomes.Outcome.{refusal}
+use Rattle.outcome.specs.Refusals.{wrongLength, wrongConfidenceLength}
+use Rattle.outcome.proofs.Laws.{refused, passed}
 use Rattle.sensor.specs.Verdicts.{checked}
 use Rattle.sensor.proofs.check.Statement.{statement}
 use Rattle.sensor.proofs.check.Tie as tie
@@ -17,16 +18,16 @@ check-numbers-requires c κs = search needs
 returns : tie.Need-returns
 unfolding checked
 returns c =
-    passed _ 1 _ _ (sym (c .before .before .before .is-message-length .ensures) ∙ c .before .before .if1 .taken) (passed _ 2 _ _ (eq-eqb _ _ (c .before .if2 .taken)) (c .check-numbers .ensures))
+    passed _ wrongLength _ _ (sym (c .before .before .before .is-message-length .ensures) ∙ c .before .before .if1 .taken) (passed _ wrongConfidenceLength _ _ (eq-eqb _ _ (c .before .if2 .taken)) (c .check-numbers .ensures))
 
 returns-2 : tie.Need-returns-2
 unfolding checked
 returns-2 c =
-    passed _ 1 (refusal 2) _ (sym (c .before .before .is-message-length .ensures) ∙ c .before .if1 .taken) (refused _ 2 _ (ne-eqb _ _ (c .if2 .left)))
+    passed _ wrongLength (refusal wrongConfidenceLength) _ (sym (c .before .before .is-message-length .ensures) ∙ c .before .if1 .taken) (refused _ wrongConfidenceLength _ (ne-eqb _ _ (c .if2 .left)))
 
 returns-3 : tie.Need-returns-3
 unfolding checked
-returns-3 c = refused _ 1 _ (sym (c .before .is-message-length .ensures) ∙ c .if1 .left)
+returns-3 c = refused _ wrongLength _ (sym (c .before .is-message-length .ensures) ∙ c .if1 .left)
 
 pub check-spec : {M : Type 1} → statement M
 check-spec =

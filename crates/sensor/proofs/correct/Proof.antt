@@ -1,13 +1,13 @@
--- `sensor::correct` meets its contract: a refusal leaves the message, and else the row that applies answers.
-use mathlib.Core.Path.{sym, ap, _∙_}
+-- `sensor::correct` meets its contract: a refusal leaves the message, and else the decision answers.
+use mathlib.Core.Path.{sym, _∙_}
 use mathlib.Core.List.{List}
 use Prim.Native.Nat.{ℕ}
 use lib.ListN.{length}
 use borrow.Author.Needs.{needs}
-use Rattle.division.proofs.Laws.{left-of}
-use Rattle.sensor.specs.Verdicts.{syndrome, rowOf, rowAnswer, rowMessage, sensorOutcome, sensorAfter}
-use Rattle.sensor.specs.Searching.{checkSaid}
-use Rattle.sensor.proofs.Rows.{Admitted, admitted, refused-anyhow, row-left}
+use Rattle.outcome.proofs.Laws.{passed-said, refused-said, left-of}
+use Rattle.sensor.specs.Verdicts.{syndrome, decisionOf, decisionAnswer, decisionMessage, sensorOutcome, sensorAfter}
+use Rattle.sensor.proofs.Checking.{Admitted, check-passed, refused-anyhow}
+use Rattle.sensor.proofs.Deciding.{decision-left}
 use Rattle.sensor.proofs.correct.Statement.{statement}
 use Rattle.sensor.proofs.correct.Tie as tie
 
@@ -26,13 +26,13 @@ judge-requires c κs =
     let k : List ℕ = c .before .before .before .before .before .before .args .c .now in
     let w : ℕ = c .before .before .before .before .before .before .args .word in
     let l : ℕ = c .before .before .before .before .before .before .args .limit in
-    let ok : Admitted (length m) (length k) w l = admitted (length m) (length k) w l (ap checkSaid (sym (c .before .enum-told .given .1)) ∙ c .before .before .before .check .ensures) in
+    let ok : Admitted (length m) (length k) w l = check-passed (length m) (length k) w l (passed-said _ _ (c .before .enum-told .given .1) (c .before .before .before .check .ensures)) in
     (ok .length-ok, (ok .same-length, ok .word-ok))
 
 returns : tie.Need-returns
 unfolding sensorOutcome sensorAfter
 returns c =
-    let e = refused-anyhow _ _ _ _ _ _ (ap checkSaid (sym (c .before .checked .given .1)) ∙ c .before .before .before .check .ensures) in
+    let e = refused-anyhow _ _ _ _ _ _ (refused-said _ _ _ (c .before .checked .given .1) (c .before .before .before .check .ensures)) in
     (e, left-of _ _ _ _ e)
 
 same-length : tie.Need-same-length
@@ -45,12 +45,12 @@ returns-2 c =
     let k : List ℕ = c .before .before .before .before .before .before .before .before .before .args .c .now in
     let w : ℕ = c .before .before .before .before .before .before .before .before .before .args .word in
     let l : ℕ = c .before .before .before .before .before .before .before .before .before .args .limit in
-    let ok : Admitted (length m) (length k) w l = admitted (length m) (length k) w l (ap checkSaid (sym (c .before .before .before .before .enum-told .given .1)) ∙ c .before .before .before .before .before .before .check .ensures) in
+    let ok : Admitted (length m) (length k) w l = check-passed (length m) (length k) w l (passed-said _ _ (c .before .before .before .before .enum-told .given .1) (c .before .before .before .before .before .before .check .ensures)) in
     let s : ℕ = syndrome m w in
-    let o = ok .outcome (rowAnswer m s (rowOf m k w l)) in (
+    let o = ok .outcome (decisionAnswer m s (decisionOf m k w l)) in (
       c .before .before .judge .ensures .0 ∙ sym o,
-      c .before .before .judge .ensures .1 ∙ row-left m (rowMessage m s (rowOf m k w l)) s (rowOf m k w l)
-          ∙ left-of _ _ m (rowMessage m s (rowOf m k w l)) (sym o),
+      c .before .before .judge .ensures .1 ∙ decision-left m (decisionMessage m s (decisionOf m k w l)) s (decisionOf m k w l)
+          ∙ left-of _ _ m (decisionMessage m s (decisionOf m k w l)) (sym o),
     )
 
 pub correct-spec : {M : Type 1} → statement M

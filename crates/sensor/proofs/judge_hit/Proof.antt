@@ -3,10 +3,11 @@ use mathlib.Core.Path.{sym, ap, _∙_}
 use mathlib.Core.List.{List, [], _∷_}
 use Prim.Native.Nat.{ℕ, _-_}
 use borrow.Author.Needs.{needs}
-use Rattle.division.specs.Answers.Outcome.{answer}
-use Rattle.sensor.specs.Verdicts.{rowAnswer, rowMessage}
+use Rattle.outcome.specs.Outcomes.Outcome.{answer}
+use Rattle.sensor.specs.Verdicts.{decisionAnswer, decisionMessage}
 use Rattle.sensor.specs.Searching.{foundOf}
-use Rattle.sensor.proofs.Rows.{dense-row, sparse-row, sizes, sizes-of}
+use Rattle.sensor.proofs.Checking.{sizes, sizes-of}
+use Rattle.sensor.proofs.Deciding.{decides-dense, decides-sparse}
 use Rattle.sensor.proofs.judge_hit.Statement.{statement}
 use Rattle.sensor.proofs.judge_hit.Tie as tie
 
@@ -29,8 +30,8 @@ returns : tie.Need-returns
 returns c =
     let m : List ℕ = c .before .before .before .before .before .before .before .args .m .now in
     let s : ℕ = c .before .before .before .before .before .before .before .args .s in
-    let e = dense-row (c .before .before .before .before .before .before .before .args .c .now) s (c .before .before .before .before .before .before .before .args .limit) _ (ap foundOf (sym (c .before .before .dense .given .1)) ∙ c .before .before .before .before .highest-dense .ensures) in
-    (ap (λ (w : ℕ). answer 2 (w ∷ [])) (c .window-at .ensures) ∙ ap (rowAnswer m s) e, ap (rowMessage m s) e)
+    let e = decides-dense _ (c .before .before .before .before .before .before .before .args .c .now) s (c .before .before .before .before .before .before .before .args .limit) _ (ap foundOf (sym (c .before .before .dense .given .1)) ∙ c .before .before .before .before .highest-dense .ensures) in
+    (ap (λ (w : ℕ). answer 2 (w ∷ [])) (c .window-at .ensures) ∙ ap (decisionAnswer m s) e, ap (decisionMessage m s) e)
 
 same-length : tie.Need-same-length
 same-length c = search needs
@@ -39,8 +40,8 @@ returns-2 : tie.Need-returns-2
 returns-2 c =
     let m : List ℕ = c .before .before .before .before .before .before .before .before .before .args .m .now in
     let s : ℕ = c .before .before .before .before .before .before .before .before .before .args .s in
-    let e = sparse-row (c .before .before .before .before .before .before .before .before .before .args .c .now) s (c .before .before .before .before .before .before .before .before .before .args .limit) (ap foundOf (sym (c .before .before .before .before .enum-told .given .1)) ∙ c .before .before .before .before .before .before .highest-dense .ensures) in
-    (c .before .before .mend .ensures .0 ∙ ap (rowAnswer m s) e, c .before .before .mend .ensures .1 ∙ ap (rowMessage m s) e)
+    let e = decides-sparse _ (c .before .before .before .before .before .before .before .before .before .args .c .now) s (c .before .before .before .before .before .before .before .before .before .args .limit) (ap foundOf (sym (c .before .before .before .before .enum-told .given .1)) ∙ c .before .before .before .before .before .before .highest-dense .ensures) in
+    (c .before .before .mend .ensures .0 ∙ ap (decisionAnswer m s) e, c .before .before .mend .ensures .1 ∙ ap (decisionMessage m s) e)
 
 pub judge-hit-spec : {M : Type 1} → statement M
 judge-hit-spec =

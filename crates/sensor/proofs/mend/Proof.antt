@@ -4,18 +4,19 @@ use mathlib.Core.List.{List}
 use Prim.Native.Nat.{ℕ, suc, _-_, _*_, _^_, _<_, _≤_}
 use lib.ListN.{length}
 use borrow.Author.Needs.{needs}
-use Rattle.sensor.specs.Changes.{lastWindow}
-use Rattle.sensor.specs.Verdicts.{rowAnswer, rowMessage, inverted}
+use Rattle.message.specs.Bits.{lastWindow, inverted}
+use Rattle.sensor.specs.Verdicts.{passes, decisionAnswer, decisionMessage}
 use Rattle.sensor.specs.Searching.{searchTo}
 use Rattle.sensor.specs.declared.search.Search.{Search}
-use Rattle.sensor.proofs.Bits.{inverted-length}
+use Rattle.message.proofs.Laws.{inverted-length}
 use Rattle.sensor.proofs.Fits.{Seen, search-seen, candidate-lt}
-use Rattle.sensor.proofs.Rows.{Mended, no-fit, some-fit, sizes, sizes-of, mended-answer, mended-message}
+use Rattle.sensor.proofs.Checking.{sizes, sizes-of}
+use Rattle.sensor.proofs.Deciding.{Mended, no-fit, some-fit, mended-answer, mended-message}
 use Rattle.sensor.proofs.mend.Statement.{statement}
 use Rattle.sensor.proofs.mend.Tie as tie
 
-seen : (c : List ℕ) (s : ℕ) (st : Search) → st ≡ searchTo c s (suc (lastWindow c)) → Seen c s (suc (lastWindow c)) st
-seen c s st e = subst (λ (x : Search). Seen c s (suc (lastWindow c)) x) (sym e) (search-seen c s (suc (lastWindow c)))
+seen : (c : List ℕ) (s : ℕ) (st : Search) → st ≡ searchTo (passes c) s (suc (lastWindow c)) → Seen (passes c) s (suc (lastWindow c)) st
+seen c s st e = subst (λ (x : Search). Seen (passes c) s (suc (lastWindow c)) x) (sym e) (search-seen (passes c) s (suc (lastWindow c)))
 
 all-fits-requires : tie.Need-all-fits-requires
 all-fits-requires c κs = (sizes-of _ _ (c .before .before .pre .0) (c .before .before .pre .1 .0), c .before .before .pre .1 .1)
@@ -29,7 +30,7 @@ invert-requires c κs =
     let k : List ℕ = c .before .before .before .before .before .args .c .now in
     let s : ℕ = c .before .before .before .before .before .args .s in
     let st : Search = c .before .before .all-fits .result in
-    let t : Mended k s st = some-fit k s st (seen k s st (c .before .before .all-fits .ensures)) (c .before .if1 .left) in (
+    let t : Mended (passes k) k s st = some-fit (passes k) k s st (seen k s st (c .before .before .all-fits .ensures)) (c .before .if1 .left) in (
       sizes _ (c .before .before .before .before .before .pre .0),
       (
         subst (λ (n : ℕ). st .place ≤ 8 * n - 24) (c .before .before .before .before .before .pre .1 .0) (t .place),
@@ -50,8 +51,8 @@ returns c =
     let k : List ℕ = c .before .before .before .before .args .c .now in
     let s : ℕ = c .before .before .before .before .args .s in
     let st : Search = c .before .all-fits .result in
-    let e = no-fit k s st (seen k s st (c .before .all-fits .ensures)) (c .if1 .taken) in
-    (sym (ap (rowAnswer m s) e), sym (ap (rowMessage m s) e))
+    let e = no-fit (passes k) k s st (seen k s st (c .before .all-fits .ensures)) (c .if1 .taken) in
+    (sym (ap (decisionAnswer m s) e), sym (ap (decisionMessage m s) e))
 
 same-length : tie.Need-same-length
 same-length c = search needs
@@ -62,11 +63,11 @@ returns-2 c =
     let k : List ℕ = c .before .before .before .before .before .before .before .before .before .before .args .c .now in
     let s : ℕ = c .before .before .before .before .before .before .before .before .before .before .args .s in
     let st : Search = c .before .before .before .before .before .before .before .all-fits .result in
-    let t : Mended k s st = some-fit k s st (seen k s st (c .before .before .before .before .before .before .before .all-fits .ensures)) (c .before .before .before .before .before .before .if1 .left) in
+    let t : Mended (passes k) k s st = some-fit (passes k) k s st (seen k s st (c .before .before .before .before .before .before .before .all-fits .ensures)) (c .before .before .before .before .before .before .if1 .left) in
     let i : c .before .before .before .before .invert .last .0 ≡ inverted m (st .pattern * 2 ^ st .place) = c .before .before .before .before .invert .ensures in
     let w : c .before .window-at .result ≡ 8 * length (c .before .before .before .before .invert .last .0) - 24 - st .place = c .before .window-at .ensures in (
-      mended-answer m k s st t _ _ (w ∙ ap (λ (n : ℕ). 8 * n - 24 - st .place) (ap length i ∙ inverted-length m (st .pattern * 2 ^ st .place))) (c .mark-for .ensures),
-      i ∙ mended-message m k s st t,
+      mended-answer (passes k) m k s st t _ _ (w ∙ ap (λ (n : ℕ). 8 * n - 24 - st .place) (ap length i ∙ inverted-length m (st .pattern * 2 ^ st .place))) (c .mark-for .ensures),
+      i ∙ mended-message (passes k) m k s st t,
     )
 
 pub mend-spec : {M : Type 1} → statement M

@@ -1,8 +1,8 @@
 -- `transponder::receive_whole` meets its contract: rows 5 and 6, and then the reading.
-use mathlib.Core.Path.{sym, ap₂, _∙_}
+use mathlib.Core.Path.{sym, ap, ap₂, _∙_}
 use Prim.Native.Nat.{ℕ}
 use borrow.Author.Needs.{needs}
-use Rattle.transponder.specs.Receptions.{reading}
+use Rattle.transponder.specs.Receptions.{said, receptionOf}
 use Rattle.transponder.proofs.Receiving.{refused-bit, refused-reserved, read}
 use Rattle.transponder.proofs.receive_whole.Statement.{statement}
 use Rattle.transponder.proofs.receive_whole.Tie as tie
@@ -31,7 +31,7 @@ returns-2 : tie.Need-returns-2
 returns-2 c =
     read _ _ _ (c .before .before .before .before .before .before .before .before .pre .0) (c .before .before .before .before .before .before .before .before .pre .1)
     (sym (c .before .before .before .before .before .before .first-bit-agrees .ensures) ∙ c .before .before .before .before .before .if1 .taken) (sym (c .before .before .before .before .is-reserved .ensures) ∙ c .before .before .before .if2 .left)
-    (c .judge .ensures ∙ ap₂ (λ (a f : ℕ). reading (c .before .before .before .before .before .before .before .before .args .own) a f) (c .before .before .read-address .ensures) (c .before .format-number .ensures))
+    (ap said (c .judge .ensures ∙ ap₂ (λ (a f : ℕ). receptionOf (c .before .before .before .before .before .before .before .before .args .own) a f) (c .before .before .read-address .ensures) (c .before .format-number .ensures)))
 
 returns-3 : tie.Need-returns-3
 returns-3 c =

@@ -2,11 +2,10 @@
 use mathlib.Core.Path.{refl, _≡_, sym, ap, _∙_}
 use mathlib.Core.List.{List, [], _∷_, _++_, append-assoc}
 use Prim.Native.Nat.{ℕ}
-use Rattle.text.specs.Quoted.{ascii}
-use Rattle.text.specs.Lines.{space}
+use Rattle.text.specs.Ascii.{ascii, space}
 use Rattle.text.specs.Digits.{decimalText}
 use Rattle.text.specs.Output.{Place, append}
-use Rattle.text.proofs.Appending.{after}
+use Rattle.text.proofs.Laws.{and-then}
 use Rattle.sensor.specs.Verdicts.{markOf}
 use Rattle.verdicts.specs.Columns.{markWord}
 use Rattle.verdicts.proofs.write_correction.Statement.{statement}
@@ -43,8 +42,8 @@ returns c =
     let one : (window .last .0, window .result) ≡ append start w = window .ensures .0 in
     let two : (bits .last .0, bits .result) ≡ append (window .last .0, window .result) n = bits .ensures .0 in
     let three : (mark .last .0, mark .result) ≡ append (bits .last .0, bits .result) m = mark .ensures in
-    let to-two = after start (window .last .0, window .result) (bits .last .0, bits .result) w n one two in (
-      after start (bits .last .0, bits .result) (mark .last .0, mark .result) (w ++ n) m to-two three
+    let to-two = and-then start (window .last .0, window .result) (bits .last .0, bits .result) w n one two in (
+      and-then start (bits .last .0, bits .result) (mark .last .0, mark .result) (w ++ n) m to-two three
           ∙ ap (λ (t : List ℕ). append start (t ++ m)) (sym (append-assoc w (space ∷ []) (decimalText (a .k .bits)))),
       (window .ensures .1, bits .ensures .1),
     )

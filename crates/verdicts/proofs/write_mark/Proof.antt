@@ -1,12 +1,8 @@
 -- `verdicts::write_mark` meets its contract.
-use mathlib.Core.Path.{refl, sym, ap, _∙_}
-use mathlib.Core.List.{_∷_}
-use Rattle.text.specs.Lines.{space}
-use Rattle.text.specs.Output.{Place, append}
-use Rattle.sensor.specs.Verdicts.{markOf}
-use Rattle.sensor.specs.declared.Mark.{Mark}
-use Rattle.verdicts.specs.Columns.{markWord}
-use Rattle.verdicts.proofs.Texts.{sole-text, several-text}
+use mathlib.Core.Path.{refl}
+use Rattle.text.specs.Ascii.{ascii}
+use Rattle.sensor.specs.declared.Mark.the-variants.{Sole, Several}
+use Rattle.verdicts.proofs.Texts.{sole-text, several-text, mark-written}
 use borrow.Author.Needs.{needs}
 use Rattle.verdicts.proofs.write_mark.Statement.{statement}
 use Rattle.verdicts.proofs.write_mark.Tie as tie
@@ -35,10 +31,9 @@ same-length c = c .before .before .put-bytes .kept .0
 returns : tie.Need-returns
 returns c =
     let a = c .before .before .before .before .before .before .before .before .args in
-    let start : Place = (a .out .now, a .taken) in
-    c .before .before .put-bytes .ensures
-    ∙ ap (append start) sole-text
-    ∙ ap (λ (m : Mark). append start (space ∷ markWord (markOf m))) (sym (c .before .before .before .before .before .enum-told .given .1))
+    let put = c .before .before .put-bytes in
+    mark-written (a .out .now, a .taken) (put .last .0, put .result) (a .mark) Sole (ascii " sole")
+    (c .before .before .before .before .before .enum-told .given .1) sole-text (put .ensures)
 
 same-length-2 : tie.Need-same-length-2
 same-length-2 c = c .before .before .put-bytes2 .kept .0
@@ -46,10 +41,9 @@ same-length-2 c = c .before .before .put-bytes2 .kept .0
 returns-2 : tie.Need-returns-2
 returns-2 c =
     let a = c .before .before .before .before .before .before .before .before .args in
-    let start : Place = (a .out .now, a .taken) in
-    c .before .before .put-bytes2 .ensures
-    ∙ ap (append start) several-text
-    ∙ ap (λ (m : Mark). append start (space ∷ markWord (markOf m))) (sym (c .before .before .before .before .before .enum-told2 .given .1))
+    let put = c .before .before .put-bytes2 in
+    mark-written (a .out .now, a .taken) (put .last .0, put .result) (a .mark) Several (ascii " several")
+    (c .before .before .before .before .before .enum-told2 .given .1) several-text (put .ensures)
 
 pub write-mark-spec : {M : Type 1} → statement M
 write-mark-spec =

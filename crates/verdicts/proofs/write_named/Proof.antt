@@ -4,8 +4,7 @@ use Prim.Native.Nat.{_<_, _*_, _^_}
 use native.Mathlib.Omega.{arith}
 use Rattle.text.specs.Digits.{decimalText}
 use Rattle.text.specs.Output.{Place, append}
-use Rattle.text.proofs.Appending.{after}
-use Rattle.text.proofs.Spelling.{decimal-length}
+use Rattle.text.proofs.Laws.{and-then, decimal-length}
 use Rattle.verdicts.proofs.write_named.Statement.{statement}
 use Rattle.verdicts.proofs.write_named.Tie as tie
 
@@ -27,7 +26,7 @@ returns c =
     let small : a .n < 10 ^ 9 * 10 = omega arith in
     let one : (named .last .0, named .result) ≡ append start (a .word .now) = named .ensures in
     let two : (number .last .0, number .result) ≡ append (named .last .0, named .result) (decimalText (a .n)) = number .ensures in (
-      after start (named .last .0, named .result) (number .last .0, number .result) (a .word .now) (decimalText (a .n)) one two,
+      and-then start (named .last .0, named .result) (number .last .0, number .result) (a .word .now) (decimalText (a .n)) one two,
       decimal-length 9 (a .n) small,
     )
 

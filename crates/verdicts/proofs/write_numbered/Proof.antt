@@ -2,10 +2,10 @@
 use mathlib.Core.Path.{refl, _≡_, _∙_}
 use mathlib.Core.List.{List, _++_}
 use Prim.Native.Nat.{ℕ}
-use Rattle.text.specs.Quoted.{ascii}
+use Rattle.text.specs.Ascii.{ascii}
 use Rattle.text.specs.Digits.{decimalText}
 use Rattle.text.specs.Output.{Place, append}
-use Rattle.text.proofs.Appending.{after}
+use Rattle.text.proofs.Laws.{and-then}
 use Rattle.verdicts.proofs.write_numbered.Statement.{statement}
 use Rattle.verdicts.proofs.write_numbered.Tie as tie
 
@@ -30,7 +30,7 @@ returns c =
     let text : List ℕ = a .word .now ++ decimalText (a .n) in
     let one : (number .last .0, number .result) ≡ append start text = number .ensures .0 in
     let two : (dashes .last .0, dashes .result) ≡ append (number .last .0, number .result) (ascii " - -") = dashes .ensures in (
-      after start (number .last .0, number .result) (dashes .last .0, dashes .result) text (ascii " - -") one two,
+      and-then start (number .last .0, number .result) (dashes .last .0, dashes .result) text (ascii " - -") one two,
       number .ensures .1,
     )
 

@@ -1,17 +1,14 @@
 -- `verdicts::write_verdict` meets its contract.
-use mathlib.Core.Path.{refl, _≡_, sym, ap, _∙_, subst}
-use mathlib.Core.List.{List}
-use Prim.Native.Nat.{ℕ, _≤_}
+use mathlib.Core.Path.{refl}
+use mathlib.Core.List.{_++_}
+use Prim.Native.Nat.{ℕ}
 use native.Mathlib.Omega.{arith}
-use lib.ListN.{length}
-use Rattle.text.specs.Quoted.{ascii}
-use Rattle.text.specs.Output.{Place, append}
-use Rattle.sensor.specs.Verdicts.{said, markOf}
-use Rattle.sensor.specs.declared.Verdict.{Verdict}
+use Rattle.text.specs.Ascii.{ascii}
+use Rattle.text.specs.Digits.{decimalText}
+use Rattle.sensor.specs.Verdicts.{markOf}
 use Rattle.sensor.specs.declared.Verdict.the-variants.{Clean, Dense, NoFit, Corrected, Refused}
 use Rattle.sensor.specs.declared.Correction.{Correction}
-use Rattle.verdicts.specs.Columns.{spaced, outcomeColumns}
-use Rattle.verdicts.proofs.Texts.{clean-text, nofit-text, dense-text, refused-text, corrected-text, number-length, corrected-length}
+use Rattle.verdicts.proofs.Texts.{clean-text, nofit-text, dense-text, refused-text, corrected-text, number-length, corrected-length, verdict-written}
 use borrow.Author.Needs.{needs}
 use Rattle.verdicts.proofs.write_verdict.Statement.{statement}
 use Rattle.verdicts.proofs.write_verdict.Tie as tie
@@ -64,11 +61,9 @@ same-length c = c .before .before .put-bytes .kept .0
 returns : tie.Need-returns
 returns c =
     let a = c .before .before .before .before .before .before .before .before .args in
-    let start : Place = (a .out .now, a .taken) in
-    let v : a .v ≡ Clean = c .before .before .before .before .before .enum-told .given .1 in (
-      c .before .before .put-bytes .ensures ∙ ap (append start) clean-text ∙ ap (λ (x : Verdict). append start (spaced (outcomeColumns (said x)))) (sym v),
-      subst (λ (x : Verdict). length (spaced (outcomeColumns (said x))) ≤ 40) (sym v) (subst (λ (t : List ℕ). length t ≤ 40) clean-text (omega arith)),
-    )
+    let put = c .before .before .put-bytes in
+    verdict-written (a .out .now, a .taken) (put .last .0, put .result) (a .v) Clean (ascii " clean - - -")
+    (c .before .before .before .before .before .enum-told .given .1) clean-text (put .ensures) (omega arith)
 
 same-length-2 : tie.Need-same-length-2
 same-length-2 c = c .before .before .write-numbered .kept .0
@@ -76,13 +71,11 @@ same-length-2 c = c .before .before .write-numbered .kept .0
 returns-2 : tie.Need-returns-2
 returns-2 c =
     let a = c .before .before .before .before .before .before .before .before .before .args in
-    let start : Place = (a .out .now, a .taken) in
+    let put = c .before .before .write-numbered in
     let n : ℕ = c .before .before .before .before .before .before .v .given .0 .0 in
-    let v : a .v ≡ Dense n = c .before .before .before .before .before .before .v .given .1 in (
-      c .before .before .write-numbered .ensures .0 ∙ ap (append start) (dense-text n) ∙ ap (λ (x : Verdict). append start (spaced (outcomeColumns (said x)))) (sym v),
-      subst (λ (x : Verdict). length (spaced (outcomeColumns (said x))) ≤ 40) (sym v)
-          (subst (λ (t : List ℕ). length t ≤ 40) (dense-text n) (number-length (ascii " dense ") n (omega arith) (c .before .before .write-numbered .ensures .1))),
-    )
+    verdict-written (a .out .now, a .taken) (put .last .0, put .result) (a .v) (Dense n) (ascii " dense " ++ decimalText n ++ ascii " - -")
+    (c .before .before .before .before .before .before .v .given .1) (dense-text n) (put .ensures .0)
+    (number-length (ascii " dense ") n (omega arith) (put .ensures .1))
 
 same-length-3 : tie.Need-same-length-3
 same-length-3 c = c .before .before .put-bytes2 .kept .0
@@ -90,11 +83,9 @@ same-length-3 c = c .before .before .put-bytes2 .kept .0
 returns-3 : tie.Need-returns-3
 returns-3 c =
     let a = c .before .before .before .before .before .before .before .before .args in
-    let start : Place = (a .out .now, a .taken) in
-    let v : a .v ≡ NoFit = c .before .before .before .before .before .enum-told2 .given .1 in (
-      c .before .before .put-bytes2 .ensures ∙ ap (append start) nofit-text ∙ ap (λ (x : Verdict). append start (spaced (outcomeColumns (said x)))) (sym v),
-      subst (λ (x : Verdict). length (spaced (outcomeColumns (said x))) ≤ 40) (sym v) (subst (λ (t : List ℕ). length t ≤ 40) nofit-text (omega arith)),
-    )
+    let put = c .before .before .put-bytes2 in
+    verdict-written (a .out .now, a .taken) (put .last .0, put .result) (a .v) NoFit (ascii " nofit - - -")
+    (c .before .before .before .before .before .enum-told2 .given .1) nofit-text (put .ensures) (omega arith)
 
 same-length-4 : tie.Need-same-length-4
 same-length-4 c = c .before .before .write-correction .kept .0
@@ -102,16 +93,11 @@ same-length-4 c = c .before .before .write-correction .kept .0
 returns-4 : tie.Need-returns-4
 returns-4 c =
     let a = c .before .before .before .before .before .before .before .before .args in
-    let start : Place = (a .out .now, a .taken) in
-    let k : Correction = c .before .before .before .before .before .v2 .given .0 .0 in
-    let v : a .v ≡ Corrected k = c .before .before .before .before .before .v2 .given .1 in
     let put = c .before .before .write-correction in
-    let text = corrected-text (k .window) (k .bits) (markOf (k .mark)) in (
-      put .ensures .0 ∙ ap (append start) text ∙ ap (λ (x : Verdict). append start (spaced (outcomeColumns (said x)))) (sym v),
-      subst (λ (x : Verdict). length (spaced (outcomeColumns (said x))) ≤ 40) (sym v)
-          (subst (λ (t : List ℕ). length t ≤ 40) text
-          (corrected-length (k .window) (k .bits) (markOf (k .mark)) (put .ensures .1 .0) (put .ensures .1 .1))),
-    )
+    let k : Correction = c .before .before .before .before .before .v2 .given .0 .0 in
+    verdict-written (a .out .now, a .taken) (put .last .0, put .result) (a .v) (Corrected k) _
+    (c .before .before .before .before .before .v2 .given .1) (corrected-text (k .window) (k .bits) (markOf (k .mark))) (put .ensures .0)
+    (corrected-length (k .window) (k .bits) (markOf (k .mark)) (put .ensures .1 .0) (put .ensures .1 .1))
 
 same-length-5 : tie.Need-same-length-5
 same-length-5 c = c .before .before .write-numbered2 .kept .0
@@ -119,13 +105,11 @@ same-length-5 c = c .before .before .write-numbered2 .kept .0
 returns-5 : tie.Need-returns-5
 returns-5 c =
     let a = c .before .before .before .before .before .before .before .before .before .args in
-    let start : Place = (a .out .now, a .taken) in
+    let put = c .before .before .write-numbered2 in
     let n : ℕ = c .before .before .before .before .before .before .v3 .given .0 .0 in
-    let v : a .v ≡ Refused n = c .before .before .before .before .before .before .v3 .given .1 in (
-      c .before .before .write-numbered2 .ensures .0 ∙ ap (append start) (refused-text n) ∙ ap (λ (x : Verdict). append start (spaced (outcomeColumns (said x)))) (sym v),
-      subst (λ (x : Verdict). length (spaced (outcomeColumns (said x))) ≤ 40) (sym v)
-          (subst (λ (t : List ℕ). length t ≤ 40) (refused-text n) (number-length (ascii " refused ") n (omega arith) (c .before .before .write-numbered2 .ensures .1))),
-    )
+    verdict-written (a .out .now, a .taken) (put .last .0, put .result) (a .v) (Refused n) (ascii " refused " ++ decimalText n ++ ascii " - -")
+    (c .before .before .before .before .before .before .v3 .given .1) (refused-text n) (put .ensures .0)
+    (number-length (ascii " refused ") n (omega arith) (put .ensures .1))
 
 pub write-verdict-spec : {M : Type 1} → statement M
 write-verdict-spec =

@@ -2,7 +2,7 @@
 use mathlib.Core.Path.{sym, _∙_}
 use borrow.Author.Needs.{needs}
 use Rattle.division.specs.Answers.{parityAnswer}
-use Rattle.division.proofs.Tests.{refused, passed-value}
+use Rattle.outcome.proofs.Laws.{refused, passed-value}
 use Rattle.division.proofs.byte_table.parity_by_bytes.Statement.{statement}
 use Rattle.division.proofs.byte_table.parity_by_bytes.Tie as tie
 

@@ -6,8 +6,7 @@ use native.Mathlib.Omega.{arith}
 use lib.Bits.{bitXor, xor-lt}
 use borrow.Author.Needs.{needs}
 use Rattle.division.specs.Tables.{IsByteTable}
-use Rattle.division.specs.Division.{shiftIn}
-use Rattle.division.proofs.Shifting.{shiftIn-byte}
+use Rattle.division.specs.Ways.{tableStep}
 use Rattle.division.proofs.byte_table.shift_byte_by_table.Statement.{statement}
 use Rattle.division.proofs.byte_table.shift_byte_by_table.Tie as tie
 
@@ -33,11 +32,10 @@ element-copy-out-result : tie.Need-element-copy-out-result
 element-copy-out-result c = entry c
 
 returns : tie.Need-returns
-unfolding IsByteTable
+unfolding IsByteTable tableStep
 returns c =
     ap (bitXor (c .before .before .args .r % 65536 * 256)) (c .before .before .pre .0 _ (entry (c .before)))
-    ∙ shiftIn-byte (c .before .before .args .r) (c .before .wide .result) (c .before .before .pre .1) (omega arith)
-    ∙ ap (shiftIn 8 (c .before .before .args .r)) (c .before .wide .ensures .0)
+    ∙ ap (tableStep (c .before .before .args .r)) (c .before .wide .ensures .0)
 
 pub shift-byte-by-table-spec : {M : Type 1} → statement M
 shift-byte-by-table-spec =

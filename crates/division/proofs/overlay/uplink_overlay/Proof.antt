@@ -2,7 +2,7 @@
 use mathlib.Core.Path.{sym, _∙_}
 use borrow.Author.Needs.{needs}
 use Rattle.division.specs.Answers.{overlayAnswer}
-use Rattle.division.proofs.Tests.{refused, passed-value}
+use Rattle.outcome.proofs.Laws.{refused, passed-value}
 use Rattle.message.proofs.Laws.{word-lt}
 use Rattle.division.proofs.overlay.uplink_overlay.Statement.{statement}
 use Rattle.division.proofs.overlay.uplink_overlay.Tie as tie

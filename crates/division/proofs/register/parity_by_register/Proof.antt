@@ -1,8 +1,10 @@
--- `division::register::parity_by_register` meets its contract.
+-- `division::register::parity_by_register` meets its contract: the register is one of the three ways.
 use mathlib.Core.Path.{sym, _∙_}
 use borrow.Author.Needs.{needs}
 use Rattle.division.specs.Answers.{parityAnswer}
-use Rattle.division.proofs.Tests.{refused, passed-value}
+use Rattle.division.specs.Ways.{ThreeWays}
+use Rattle.division.proofs.Fields.{three-ways}
+use Rattle.outcome.proofs.Laws.{refused, passed-value}
 use Rattle.division.proofs.register.parity_by_register.Statement.{statement}
 use Rattle.division.proofs.register.parity_by_register.Tie as tie
 
@@ -13,9 +15,10 @@ by-register-requires : tie.Need-by-register-requires
 by-register-requires c κs = search needs
 
 returns : tie.Need-returns
-unfolding parityAnswer
+unfolding parityAnswer ThreeWays
 returns c =
-    passed-value _ _ _ _ (sym (c .before .before .is-field-length .ensures) ∙ c .before .if1 .taken) (c .by-register .ensures)
+    passed-value _ _ _ _ (sym (c .before .before .is-field-length .ensures) ∙ c .before .if1 .taken)
+    (c .by-register .ensures ∙ three-ways _ (λ i. c .before .before .before .shared-slice-known .given i .fits) .0)
 
 returns-2 : tie.Need-returns-2
 unfolding parityAnswer

@@ -6,7 +6,7 @@ use lib.Dec.{lit<}
 use Rattle.division.specs.Division.{shiftIn}
 use Rattle.division.specs.Answers.{registerAnswer}
 use Rattle.message.specs.Message.{bitOf}
-use Rattle.division.proofs.Tests.{refused, passed-value}
+use Rattle.outcome.proofs.Laws.{refused, passed-value}
 use Rattle.message.proofs.Laws.{word-lt}
 use borrow.Author.Needs.{needs}
 use Rattle.division.proofs.register.register_step.Statement.{statement}

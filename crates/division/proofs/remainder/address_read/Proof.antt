@@ -4,7 +4,7 @@ use Prim.Native.Nat.{ℕ, _<_, _^_}
 use borrow.Author.Needs.{needs}
 use Rattle.division.specs.Answers.{addressAnswer}
 use Rattle.division.specs.Division.{addressRead}
-use Rattle.division.proofs.Tests.{refused, passed-value}
+use Rattle.outcome.proofs.Laws.{refused, passed-value}
 use Rattle.message.proofs.Laws.{message-length-ge}
 use Rattle.division.proofs.Dividing.{remainder-lt}
 use Rattle.division.proofs.Reading.{addressRead-remainder}

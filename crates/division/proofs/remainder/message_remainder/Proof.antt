@@ -2,7 +2,7 @@
 use mathlib.Core.Path.{sym, _∙_}
 use borrow.Author.Needs.{needs}
 use Rattle.division.specs.Answers.{remainderAnswer}
-use Rattle.division.proofs.Tests.{refused, passed-value}
+use Rattle.outcome.proofs.Laws.{refused, passed-value}
 use Rattle.message.proofs.Laws.{message-length-ge}
 use Rattle.division.proofs.remainder.message_remainder.Statement.{statement}
 use Rattle.division.proofs.remainder.message_remainder.Tie as tie

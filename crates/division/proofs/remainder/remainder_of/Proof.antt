@@ -9,7 +9,7 @@ use lib.Seq.{length-take-le}
 use borrow.Author.Needs.{needs}
 use Rattle.division.specs.Division.{parity}
 use Rattle.message.specs.Message.{number, field, parityField}
-use Rattle.message.proofs.Laws.{part-from}
+use Rattle.outcome.proofs.Laws.{part-from}
 use Rattle.division.proofs.Reading.{remainder-parts}
 use Rattle.division.proofs.remainder.remainder_of.Statement.{statement}
 use Rattle.division.proofs.remainder.remainder_of.Tie as tie

@@ -5,14 +5,14 @@ use Prim.Native.Nat.{ℕ, _+_, _-_, _*_, _≤_}
 use native.Mathlib.Omega.{arith}
 use lib.ListN.{length, drop, getD}
 use Rattle.text.specs.Output.{append}
-use Rattle.text.specs.Digits.{digitValue, bytesOf}
+use Rattle.reading.specs.Digits.{digitValue, hexBytes}
 use Rattle.reading.proofs.Values.{next-pair, no-pair}
-use Rattle.text.proofs.Appending.{part-done, all-done}
+use Rattle.text.proofs.Laws.{part-done, all-done}
 use Rattle.reading.proofs.bytes.hex_bytes.Statement.{statement}
 use Rattle.reading.proofs.bytes.hex_bytes.Tie as tie
 
 abbrev Inv-loop : tie.InvT-loop
-Inv-loop s out₀ taken₀ i₀ out taken i = (i ≤ length s) × (length out ≡ length out₀) × (append (out, taken) (bytesOf (drop i s)) ≡ append (out₀, 0) (bytesOf s))
+Inv-loop s out₀ taken₀ i₀ out taken i = (i ≤ length s) × (length out ≡ length out₀) × (append (out, taken) (hexBytes (drop i s)) ≡ append (out₀, 0) (hexBytes s))
 
 abbrev μ-loop : tie.MeasureT-loop
 μ-loop s out₀ taken₀ i₀ out taken i = length s - i
@@ -57,7 +57,7 @@ loop-again c =
     e ∙ ap (λ (x : ℕ). append (l .out, l .taken) (x ∷ [])) (c .before .before .before .byte-of .ensures) in (
       omega arith,
       kept ∙ l .inv .1,
-      part-done (l .out, l .taken) (put .last .0, put .result) (byte ∷ []) (bytesOf (drop (l .i + 2) s)) (bytesOf (drop (l .i) s)) f
+      part-done (l .out, l .taken) (put .last .0, put .result) (byte ∷ []) (hexBytes (drop (l .i + 2) s)) (hexBytes (drop (l .i) s)) f
           (next-pair s (l .i) (omega arith))
           ∙ l .inv .2,
     )
@@ -70,7 +70,7 @@ returns c =
     let a = c .before .before .before .before .args in
     let l = c .before .loop in
     let s : List ℕ = a .s .now in
-    all-done (l .out, l .taken) (a .out .now, 0) (bytesOf (drop (l .i) s)) (bytesOf s) (no-pair s (l .i) (l .inv .0) (omega arith)) (l .inv .2)
+    all-done (l .out, l .taken) (a .out .now, 0) (hexBytes (drop (l .i) s)) (hexBytes s) (no-pair s (l .i) (l .inv .0) (omega arith)) (l .inv .2)
 
 pub hex-bytes-spec : {M : Type 1} → statement M
 hex-bytes-spec =

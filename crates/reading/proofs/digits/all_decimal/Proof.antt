@@ -4,8 +4,8 @@ use mathlib.Core.Bool.{_&&_}
 use Prim.Native.Nat.{_-_, _≤_}
 use native.Mathlib.Omega.{arith}
 use lib.ListN.{length, drop}
-use Rattle.text.specs.Digits.{isDecimalDigit, all as every}
-use Rattle.reading.proofs.Values.{all-more, all-done}
+use Rattle.reading.specs.Digits.{isDecimalDigit, all as every}
+use Rattle.reading.proofs.Values.{one-more-tested, all-tested}
 use Rattle.reading.proofs.digits.all_decimal.Statement.{statement}
 use Rattle.reading.proofs.digits.all_decimal.Tie as tie
 
@@ -35,12 +35,12 @@ loop-again c =
     let s = c .before .before .before .before .before .args .s .now in
     let l = c .before .before .before .loop in (
       omega arith,
-      all-more isDecimalDigit s (l .i) (c .before .before .loop-test .taken) (l .all) (c .is-decimal-digit .result) (c .is-decimal-digit .ensures) ∙ l .inv .1,
+      one-more-tested isDecimalDigit s (l .i) (c .before .before .loop-test .taken) (l .all) (c .is-decimal-digit .result) (c .is-decimal-digit .ensures) ∙ l .inv .1,
     )
 
 returns : tie.Need-returns Inv-loop μ-loop
 returns c =
-    all-done isDecimalDigit (c .before .before .before .args .s .now) (c .before .loop .i) (c .loop-test .left) (c .before .loop .all) ∙ c .before .loop .inv .1
+    all-tested isDecimalDigit (c .before .before .before .args .s .now) (c .before .loop .i) (c .loop-test .left) (c .before .loop .all) ∙ c .before .loop .inv .1
 
 pub all-decimal-spec : {M : Type 1} → statement M
 all-decimal-spec =

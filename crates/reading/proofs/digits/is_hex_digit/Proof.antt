@@ -2,7 +2,7 @@
 use mathlib.Core.Path.{ap}
 use mathlib.Core.Bool.{Bool, _&&_, _||_}
 use lib.Dec.{leb}
-use Rattle.text.specs.Digits.{isHexDigit}
+use Rattle.reading.specs.Digits.{isHexDigit}
 use Rattle.reading.proofs.digits.is_hex_digit.Statement.{statement}
 use Rattle.reading.proofs.digits.is_hex_digit.Tie as tie
 

@@ -3,7 +3,8 @@ use mathlib.Core.Path.{sym}
 use native.Mathlib.Omega.{arith}
 use Prim.Native.Nat.{_+_}
 use borrow.Author.Needs.{needs}
-use Rattle.text.proofs.Parts.{no-more, part-from}
+use Rattle.outcome.proofs.Laws.{part-from}
+use Rattle.text.proofs.Laws.{no-more}
 use Rattle.reading.proofs.lines.after.Statement.{statement}
 use Rattle.reading.proofs.lines.after.Tie as tie
 
@@ -29,7 +30,7 @@ part-result-end-2 : tie.Need-part-result-end-2
 part-result-end-2 c = search needs
 
 returns : tie.Need-returns
-returns c = part-from (c .before .before .args .s .now) (c .before .before .args .end + 1)
+returns c = part-from (c .before .before .args .end + 1) (c .before .before .args .s .now)
 
 returns-2 : tie.Need-returns-2
 returns-2 c =

@@ -3,7 +3,7 @@ use mathlib.Core.Path.{_≡_}
 use Prim.Native.Nat.{_+_, _-_, _≤_}
 use native.Mathlib.Omega.{arith}
 use lib.ListN.{length, drop}
-use Rattle.text.specs.Lines.{before}
+use Rattle.reading.specs.Lines.{before}
 use Rattle.reading.proofs.Searching.{found, not-here, none-left}
 use Rattle.reading.proofs.lines.find.Statement.{statement}
 use Rattle.reading.proofs.lines.find.Tie as tie

@@ -1,5 +1,5 @@
 -- `reading::numbers::decimal_number` meets its contract.
-use Rattle.text.specs.Digits.{decimalNumber}
+use Rattle.reading.specs.Digits.{decimalNumber}
 use borrow.Author.Needs.{needs}
 use Rattle.reading.proofs.numbers.decimal_number.Statement.{statement}
 use Rattle.reading.proofs.numbers.decimal_number.Tie as tie

@@ -1,5 +1,5 @@
 -- `reading::numbers::hex_number` meets its contract.
-use Rattle.text.specs.Digits.{hexNumber}
+use Rattle.reading.specs.Digits.{hexNumber}
 use borrow.Author.Needs.{needs}
 use Rattle.reading.proofs.numbers.hex_number.Statement.{statement}
 use Rattle.reading.proofs.numbers.hex_number.Tie as tie

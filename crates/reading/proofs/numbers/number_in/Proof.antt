@@ -3,7 +3,7 @@ use mathlib.Core.Path.{_≡_, refl, _∙_}
 use Prim.Native.Nat.{_+_, _-_, _*_, _%_, _^_, _≤_, _<_}
 use native.Mathlib.Omega.{arith}
 use lib.ListN.{length, drop, getD}
-use Rattle.text.specs.Digits.{numberAfter, digitValue}
+use Rattle.reading.specs.Digits.{numberAfter, digitValue}
 use Rattle.reading.proofs.Values.{next-digit, all-digits-read}
 use Rattle.reading.proofs.numbers.number_in.Statement.{statement}
 use Rattle.reading.proofs.numbers.number_in.Tie as tie

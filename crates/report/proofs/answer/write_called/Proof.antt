@@ -4,16 +4,15 @@ use mathlib.Core.List.{List, [], _∷_, _++_}
 use Prim.Native.Nat.{ℕ, _≤_}
 use native.Mathlib.Omega.{arith}
 use lib.ListN.{length}
-use Rattle.text.specs.Lines.{space, lineFeed}
+use Rattle.text.specs.Ascii.{space, lineFeed}
 use Rattle.text.specs.Digits.{hexText}
 use Rattle.text.specs.Output.{Place, append}
-use Rattle.text.proofs.Appending.{after}
-use Rattle.text.proofs.Spelling.{hexText-length}
+use Rattle.text.proofs.Laws.{and-then, hexText-length}
 use Rattle.sensor.specs.Verdicts.{said, sensorOutcome, sensorAfter}
-use Rattle.division.specs.Answers.{Outcome}
+use Rattle.outcome.specs.Outcomes.{Outcome}
 use Rattle.verdicts.specs.Columns.{spaced, outcomeColumns}
-use Rattle.report.specs.Sift.{requestColumns}
-use Rattle.report.proofs.Texts.{message-text, message-length}
+use Rattle.report.specs.Sift.{lineEnd, requestColumns}
+use Rattle.report.proofs.Texts.{called-text, called-length}
 use Rattle.report.proofs.answer.write_called.Statement.{statement}
 use Rattle.report.proofs.answer.write_called.Tie as tie
 
@@ -57,15 +56,15 @@ returns c =
     let two : (gap .last .0, gap .result) ≡ append (verdict .last .0, verdict .result) (space ∷ []) = gap .ensures in
     let three : (hex .last .0, hex .result) ≡ append (gap .last .0, gap .result) t = hex .ensures in
     let four : (feed .last .0, feed .result) ≡ append (hex .last .0, hex .result) (lineFeed ∷ []) = feed .ensures in
-    let to-two = after start (verdict .last .0, verdict .result) (gap .last .0, gap .result) v (space ∷ []) one two in
-    let to-three = after start (gap .last .0, gap .result) (hex .last .0, hex .result) (v ++ (space ∷ [])) t to-two three in
-    let to-four = after start (hex .last .0, hex .result) (feed .last .0, feed .result) (v ++ (space ∷ []) ++ t) (lineFeed ∷ []) to-three four in
-    let text : v ++ (space ∷ []) ++ t ++ (lineFeed ∷ []) ≡ spaced (requestColumns (a .message .now) (a .confidence .now) (a .word) (a .limit)) ++ lineFeed ∷ [] =
-    message-text (outcomeColumns (said (called .result))) t
-    ∙ ap₂ (λ (o : Outcome) (m : List ℕ). spaced (outcomeColumns o ++ hexText m ∷ []) ++ lineFeed ∷ []) outcome message in (
+    let to-two = and-then start (verdict .last .0, verdict .result) (gap .last .0, gap .result) v (space ∷ []) one two in
+    let to-three = and-then start (gap .last .0, gap .result) (hex .last .0, hex .result) (v ++ (space ∷ [])) t to-two three in
+    let to-four = and-then start (hex .last .0, hex .result) (feed .last .0, feed .result) (v ++ (space ∷ []) ++ t) (lineFeed ∷ []) to-three four in
+    let text : v ++ (space ∷ []) ++ t ++ (lineFeed ∷ []) ≡ lineEnd (requestColumns (a .message .now) (a .confidence .now) (a .word) (a .limit)) =
+    called-text (outcomeColumns (said (called .result))) t
+    ∙ ap₂ (λ (o : Outcome) (m : List ℕ). lineEnd (outcomeColumns o ++ hexText m ∷ [])) outcome message in (
       to-four ∙ ap (append start) text,
       subst (λ (l : List ℕ). length l ≤ 70) text
-          (message-length v t (verdict .ensures .1) (omega (arith, hexText-length (called .last .0), c .before .before .before .before .before .before .before .before .before .before .before .before .before .before .before .before .before .before .before .before .before .before .before .before .pre))),
+          (called-length v t (verdict .ensures .1) (omega (arith, hexText-length (called .last .0), c .before .before .before .before .before .before .before .before .before .before .before .before .before .before .before .before .before .before .before .before .before .before .before .before .pre))),
     )
 
 pub write-called-spec : {M : Type 1} → statement M

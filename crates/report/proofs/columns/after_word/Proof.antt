@@ -7,7 +7,7 @@ use native.Mathlib.Omega.{arith}
 use lib.ListN.{length}
 use Rattle.text.specs.Output.{append}
 use Rattle.request.specs.Requests.{wellFormed}
-use Rattle.report.proofs.Forms.{word-formed, word-size}
+use Rattle.request.proofs.Laws.{word-size}
 use Rattle.report.proofs.Texts.{well-formed-text, ill-formed-text, malformed-length}
 use Rattle.report.proofs.columns.after_word.Statement.{statement}
 use Rattle.report.proofs.columns.after_word.Tie as tie
@@ -35,7 +35,7 @@ returns c =
     let put = c .before .before .write-request in
     let text = well-formed-text m n w l e in (
       put .ensures .0 ∙ ap (append (a .out .now, a .taken)) text,
-      omega (arith, put .ensures .1, ap length text, word-size w (word-formed m n w l e)),
+      omega (arith, put .ensures .1, ap length text, word-size m n w l e),
     )
 
 same-length-2 : tie.Need-same-length-2

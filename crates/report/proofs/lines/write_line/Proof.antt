@@ -2,10 +2,10 @@
 use mathlib.Core.Path.{_≡_, _∙_}
 use mathlib.Core.List.{List}
 use Prim.Native.Nat.{ℕ}
-use Rattle.text.specs.Lines.{columns}
+use Rattle.reading.specs.Lines.{columns}
 use Rattle.text.specs.Digits.{decimalText}
 use Rattle.text.specs.Output.{Place, append}
-use Rattle.text.proofs.Appending.{after}
+use Rattle.text.proofs.Laws.{and-then}
 use Rattle.report.specs.Sift.{answerText, outputLine}
 use Rattle.report.proofs.Texts.{line-length}
 use Rattle.report.proofs.lines.write_line.Statement.{statement}
@@ -30,7 +30,7 @@ returns c =
     let line : List ℕ = a .line .now in
     let one : (number .last .0, number .result) ≡ append start (decimalText (a .number)) = number .ensures in
     let two : (answer .last .0, answer .result) ≡ append (number .last .0, number .result) (answerText (columns line)) = answer .ensures .0 in (
-      after start (number .last .0, number .result) (answer .last .0, answer .result) (decimalText (a .number)) (answerText (columns line)) one two,
+      and-then start (number .last .0, number .result) (answer .last .0, answer .result) (decimalText (a .number)) (answerText (columns line)) one two,
       line-length (a .number) line (c .before .before .before .before .before .before .before .before .before .before .pre) (answer .ensures .1),
     )
 

@@ -6,9 +6,9 @@ use Prim.Native.Nat.{ℕ, _+_, _-_, _*_, _≤_, _<_}
 use native.Mathlib.Omega.{arith}
 use borrow.Author.Tests.{ltb-true, ltb-false}
 use lib.ListN.{length, take, drop, length-append}
-use Rattle.text.specs.Lines.{lines}
+use Rattle.reading.specs.Lines.{lines}
 use Rattle.text.specs.Output.{append}
-use Rattle.text.proofs.Appending.{part-done, all-done}
+use Rattle.text.proofs.Laws.{part-done, all-done}
 use Rattle.report.specs.Sift.{outputLine, outputLines}
 use Rattle.report.proofs.Texts.{next-line, no-line, line-within, line-taken}
 use Rattle.report.proofs.lines.write_lines.Statement.{statement}

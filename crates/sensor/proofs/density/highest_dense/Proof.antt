@@ -5,7 +5,7 @@ use mathlib.Core.List.{List}
 use Prim.Native.Nat.{ℕ, suc, _-_, _*_, _%_, _≤_}
 use native.Mathlib.Omega.{arith}
 use lib.ListN.{length}
-use Rattle.sensor.specs.Changes.{lastWindow}
+use Rattle.message.specs.Bits.{lastWindow}
 use Rattle.sensor.specs.Verdicts.{denseAt, highest}
 use Rattle.sensor.specs.Searching.{foundOf}
 use Rattle.sensor.proofs.Fits.{highest-start}

@@ -4,7 +4,8 @@ use mathlib.Core.List.{List}
 use Prim.Native.Nat.{ℕ, suc, _-_, _*_, _≤_}
 use native.Mathlib.Omega.{arith}
 use lib.ListN.{length}
-use Rattle.sensor.specs.Changes.{lastWindow}
+use Rattle.message.specs.Bits.{lastWindow}
+use Rattle.sensor.specs.Verdicts.{passes}
 use Rattle.sensor.specs.Searching.{Sound, visited, searchTo}
 use Rattle.sensor.specs.declared.search.Search.{Search}
 use Rattle.sensor.proofs.Fits.{search-start, search-next, search-sound}
@@ -13,7 +14,7 @@ use Rattle.sensor.proofs.search.all_fits.Tie as tie
 
 abbrev Inv-loop : tie.InvT-loop
 Inv-loop c syndrome count state₀ next₀ state next =
-    (next ≤ length c * 8 - 23) × (state ≡ searchTo c syndrome next)
+    (next ≤ length c * 8 - 23) × (state ≡ searchTo (passes c) syndrome next)
 
 abbrev μ-loop : tie.MeasureT-loop
 μ-loop c syndrome count state₀ next₀ state next = length c * 8 - 23 - next
@@ -25,7 +26,7 @@ sub-count : tie.Need-sub-count Inv-loop μ-loop
 sub-count c = omega arith
 
 loop-holds : tie.Need-loop-holds Inv-loop μ-loop
-loop-holds c = (omega arith, search-start (c .before .args .c .now) (c .before .args .syndrome))
+loop-holds c = (omega arith, search-start (passes (c .before .args .c .now)) (c .before .args .syndrome))
 
 visit-requires : tie.Need-visit-requires Inv-loop μ-loop
 visit-requires c κs = (
@@ -33,7 +34,7 @@ visit-requires c κs = (
   (
     omega arith,
     subst (λ (st : Search). Sound st (c .before .loop .next)) (sym (c .before .loop .inv .1))
-        (search-sound (c .before .before .before .args .c .now) (c .before .before .before .args .syndrome) (c .before .loop .next) (c .before .before .before .pre .1 .0) (c .before .before .before .pre .1 .1)),
+        (search-sound (passes (c .before .before .before .args .c .now)) (c .before .before .before .args .syndrome) (c .before .loop .next) (c .before .before .before .pre .1 .0) (c .before .before .before .pre .1 .1)),
   ),
 )
 
@@ -47,15 +48,15 @@ loop-again : tie.Need-loop-again Inv-loop μ-loop
 loop-again c = (
   omega arith,
   c .visit .ensures
-      ∙ ap (λ (st : Search). visited (c .before .before .before .before .args .c .now) st (c .before .before .loop .next)) (c .before .before .loop .inv .1)
-      ∙ sym (search-next (c .before .before .before .before .args .c .now) (c .before .before .before .before .args .syndrome) (c .before .before .loop .next)),
+      ∙ ap (λ (st : Search). visited (passes (c .before .before .before .before .args .c .now)) st (c .before .before .loop .next)) (c .before .before .loop .inv .1)
+      ∙ sym (search-next (passes (c .before .before .before .before .args .c .now)) (c .before .before .before .before .args .syndrome) (c .before .before .loop .next)),
 )
 
 returns : tie.Need-returns Inv-loop μ-loop
 returns c =
     let l : List ℕ = c .before .before .before .args .c .now in
     let all : c .before .loop .next ≡ suc (lastWindow l) = omega arith in
-    c .before .loop .inv .1 ∙ ap (searchTo l (c .before .before .before .args .syndrome)) all
+    c .before .loop .inv .1 ∙ ap (searchTo (passes l) (c .before .before .before .args .syndrome)) all
 
 pub all-fits-spec : {M : Type 1} → statement M
 all-fits-spec =

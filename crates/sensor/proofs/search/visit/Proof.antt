@@ -7,6 +7,7 @@ use lib.Dec.{eqb}
 use lib.Bits.{bitAnd}
 use borrow.Author.Needs.{needs}
 use Rattle.sensor.specs.Changes.{marksAt}
+use Rattle.sensor.specs.Verdicts.{passes}
 use Rattle.sensor.specs.Searching.{Sound, kept, visited}
 use Rattle.sensor.specs.declared.search.Search.{Search}
 use Rattle.sensor.proofs.Marks.{marks-at}
@@ -48,7 +49,7 @@ unfolding Sound
 divide-by-x-requires c κs = c .before .before .before .before .pre .1 .1 .0 .1
 
 returns : tie.Need-returns
-unfolding visited
+unfolding visited passes
 returns c =
     let m : List ℕ = c .before .before .before .before .before .args .c .now in
     let e : ℕ = c .before .before .before .before .before .args .place in

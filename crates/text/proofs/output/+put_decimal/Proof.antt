@@ -7,7 +7,7 @@ use lib.ListN.{length}
 use Rattle.text.specs.Output.{Place, append}
 use Rattle.text.specs.Digits.{digitOf, decimalText}
 use Rattle.text.proofs.Spelling.{one-digit, more-digits}
-use Rattle.text.proofs.Appending.{after}
+use Rattle.text.proofs.Appending.{and-then}
 use borrow.Fn.Kinds.{In}
 use borrow.Fn.PlainCycle.{Measures, is, falls, and}
 use Rattle.text.proofs.output.put_decimal.Reads as put-decimal
@@ -161,7 +161,7 @@ put-decimal-returns-2 t c =
     let first : (front .last .0, front .result) ≡ append start (decimalText (a .n / 10)) = front .ensures in
     let second : (put .last .0, put .result) ≡ append (front .last .0, front .result) (last ∷ []) =
     put .ensures ∙ ap (λ (x : ℕ). append (front .last .0, front .result) (x ∷ [])) (c .before .before .before .digit-of2 .ensures) in
-    after start (front .last .0, front .result) (put .last .0, put .result) (decimalText (a .n / 10)) (last ∷ []) first second
+    and-then start (front .last .0, front .result) (put .last .0, put .result) (decimalText (a .n / 10)) (last ∷ []) first second
     ∙ ap (append start) (sym (more-digits (a .n) (c .before .before .before .before .before .before .before .before .before .if1 .left)))
 
 pub +put-decimal-spec : {M : Type 1} → statement M

@@ -4,7 +4,7 @@ use mathlib.Core.List.{[], _∷_}
 use Prim.Native.Nat.{ℕ, _/_, _%_}
 use Rattle.text.specs.Output.{append}
 use Rattle.text.specs.Digits.{digitOf}
-use Rattle.text.proofs.Appending.{after}
+use Rattle.text.proofs.Appending.{and-then}
 use borrow.Author.Needs.{needs}
 use Rattle.text.proofs.output.put_pair.Statement.{statement}
 use Rattle.text.proofs.output.put_pair.Tie as tie
@@ -35,7 +35,7 @@ returns c =
     high .ensures ∙ ap (λ (x : ℕ). append (a .out .now, a .taken) (x ∷ [])) (c .before .before .before .before .before .before .before .before .digit-of .ensures) in
     let second : (low .last .0, low .result) ≡ append (high .last .0, high .result) (e ∷ []) =
     low .ensures ∙ ap (λ (x : ℕ). append (high .last .0, high .result) (x ∷ [])) (c .before .before .before .digit-of2 .ensures) in
-    after (a .out .now, a .taken) (high .last .0, high .result) (low .last .0, low .result) (d ∷ []) (e ∷ []) first second
+    and-then (a .out .now, a .taken) (high .last .0, high .result) (low .last .0, low .result) (d ∷ []) (e ∷ []) first second
 
 pub put-pair-spec : {M : Type 1} → statement M
 put-pair-spec =

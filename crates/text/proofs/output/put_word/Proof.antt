@@ -4,7 +4,7 @@ use mathlib.Core.List.{List, [], _∷_, _++_}
 use Prim.Native.Nat.{ℕ, _/_, _%_}
 use Rattle.text.specs.Output.{Place, append}
 use Rattle.text.specs.Digits.{digitOf, hexText, wordText}
-use Rattle.text.proofs.Appending.{after}
+use Rattle.text.proofs.Appending.{and-then}
 use borrow.Author.Needs.{needs}
 use Rattle.text.proofs.output.put_word.Statement.{statement}
 use Rattle.text.proofs.output.put_word.Tie as tie
@@ -42,8 +42,8 @@ returns c =
     let one : (high .last .0, high .result) ≡ append start (pair (a .w / 65536 % 256)) = high .ensures in
     let two : (middle .last .0, middle .result) ≡ append (high .last .0, high .result) (pair (a .w / 256 % 256)) = middle .ensures in
     let three : (low .last .0, low .result) ≡ append (middle .last .0, middle .result) (pair (a .w % 256)) = low .ensures in
-    after start (middle .last .0, middle .result) (low .last .0, low .result) (pair (a .w / 65536 % 256) ++ pair (a .w / 256 % 256)) (pair (a .w % 256))
-    (after start (high .last .0, high .result) (middle .last .0, middle .result) (pair (a .w / 65536 % 256)) (pair (a .w / 256 % 256)) one two)
+    and-then start (middle .last .0, middle .result) (low .last .0, low .result) (pair (a .w / 65536 % 256) ++ pair (a .w / 256 % 256)) (pair (a .w % 256))
+    (and-then start (high .last .0, high .result) (middle .last .0, middle .result) (pair (a .w / 65536 % 256)) (pair (a .w / 256 % 256)) one two)
     three
 
 pub put-word-spec : {M : Type 1} → statement M

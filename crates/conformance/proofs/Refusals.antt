@@ -1,0 +1,271 @@
+-- Demand 1, refusals. The idea: each call's outcome is a chain of tests, one for each part that it hands over, in the order of
+-- the table; one induction over such a chain serves every call, and each row's test is passed exactly when the part is not
+-- wrong.
+use mathlib.Core.Path.{_≡_, refl, sym, ap, _∙_, subst}
+use mathlib.Core.Logic.{_⊎_, inl, inr, _↔_}
+use mathlib.Core.List.{List, [], _∷_}
+use mathlib.Core.Bool.{Bool, true, false, not, _||_}
+use Prim.Native.Nat.{ℕ, _<_, _≤_}
+use native.Mathlib.Nat.{eq-or-lt-of-le, lt-irrefl}
+use native.Mathlib.Omega.{arith}
+use lib.Dec.{eqb, leb, lit≤}
+use lib.ListN.{length}
+use borrow.Author.Tests.{eqb-true, eqb-false, eq-eqb, ne-eqb, leb-false, lt-leb, not-false}
+use Rattle.outcome.specs.Outcomes.{Outcome, value, done, unless, Unrefused}
+use Rattle.outcome.specs.Outcomes.Outcome.{refusal}
+use Rattle.outcome.proofs.Laws.{never, or-cases, or-second, refusal-is-no-answer, left-of}
+use Rattle.message.specs.Message.{number, bitOf, firstBit, formatNumber, isMessageLength, isFieldLength, isWord, firstBitAgrees}
+use Rattle.division.specs.Division.{shiftIn, backward, overlay, parity, remainder, addressRead}
+use Rattle.division.specs.Answers.{registerAnswer, backwardAnswer, overlayAnswer, parityAnswer, remainderAnswer, addressAnswer}
+use Rattle.encoder.specs.Seals.{sealOutcome, replySeal, replyAfter, interrogationSeal, interrogationAfter}
+use Rattle.transponder.specs.Receptions.{everyone, receptionOf, isReserved, receptionOutcome, said}
+use Rattle.transponder.specs.declared.Reception.{Reception}
+use Rattle.transponder.specs.declared.Reception.the-variants.{Own, AllCall, NotOurs, Refused}
+use Rattle.transponder.proofs.Laws.{Case, case}
+use Rattle.sensor.specs.Verdicts.{syndrome, Decision, decisionOf, decisionAnswer, checked, sensorOutcome}
+use Rattle.sensor.specs.Verdicts.Decision.{clean, dense, noFit, corrected}
+use Rattle.sensor.proofs.Laws.{after-refused}
+use Rattle.conformance.specs.Refusals.{Part, row, Wrong, Call, handed, outcome, lent, after, Breaks, SomeBreaks, Applies, RefusedByLowest, UnrefusedWhereNone, RefusedLeaves}
+use Rattle.conformance.specs.Refusals.Part.{message, field, confidence, word, limit, judged, ownAddress}
+use Rattle.conformance.specs.Refusals.Call.{registerStep, registerBack, uplinkOverlay, fieldParity, messageRemainder, addressRead as readAddress, sealReply, sealInterrogation, receive, correct}
+
+-- ---- the test of each part
+
+passes : Part → Bool
+passes (message m) = isMessageLength (length m)
+passes (field f) = isFieldLength (length f)
+passes (confidence m c) = eqb (length c) (length m)
+passes (word w) = isWord w
+passes (limit l) = leb l 24
+passes (judged m) = firstBitAgrees m
+passes (ownAddress a) = not (isReserved a)
+
+-- two tests of equality, either of which will do
+either-false : (a b c : ℕ) → ((eqb a b || eqb a c) ≡ false) ↔ ((a ≡ b → ⊥) × (a ≡ c → ⊥))
+either-false a b c = (there (eqb a b) refl, λ h. back (h .0) (h .1))
+  where
+    there : (x : Bool) → eqb a b ≡ x → (x || eqb a c) ≡ false → (a ≡ b → ⊥) × (a ≡ c → ⊥)
+    there true p e = absurd (never refl e)
+    there false p e = (eqb-false a b p, eqb-false a c e)
+
+    back : (a ≡ b → ⊥) → (a ≡ c → ⊥) → (eqb a b || eqb a c) ≡ false
+    back h k = ap (λ (x : Bool). x || eqb a c) (ne-eqb a b h) ∙ ne-eqb a c k
+
+first-bit-wrong : (m : List ℕ) → firstBitAgrees m ≡ false
+    → ((length m ≡ 14) × (firstBit m ≡ 1 → ⊥)) ⊎ ((length m ≡ 14 → ⊥) × (firstBit m ≡ 0 → ⊥))
+unfolding firstBitAgrees
+first-bit-wrong m e = by (eqb (length m) 14) refl
+  where
+    by : (x : Bool) → eqb (length m) 14 ≡ x → ((length m ≡ 14) × (firstBit m ≡ 1 → ⊥)) ⊎ ((length m ≡ 14 → ⊥) × (firstBit m ≡ 0 → ⊥))
+    by true p = inl (eqb-true (length m) 14 p, eqb-false (firstBit m) 1 (sym (ap (λ (x : Bool). eqb (firstBit m) (bitOf x)) p) ∙ e))
+    by false p = inr (eqb-false (length m) 14 p, eqb-false (firstBit m) 0 (sym (ap (λ (x : Bool). eqb (firstBit m) (bitOf x)) p) ∙ e))
+
+wrong-first-bit : (m : List ℕ) → ((length m ≡ 14) × (firstBit m ≡ 1 → ⊥)) ⊎ ((length m ≡ 14 → ⊥) × (firstBit m ≡ 0 → ⊥))
+    → firstBitAgrees m ≡ false
+unfolding firstBitAgrees
+wrong-first-bit m (inl h) = ap (λ (x : Bool). eqb (firstBit m) (bitOf x)) (eq-eqb (length m) 14 (h .0)) ∙ ne-eqb (firstBit m) 1 (h .1)
+wrong-first-bit m (inr h) = ap (λ (x : Bool). eqb (firstBit m) (bitOf x)) (ne-eqb (length m) 14 (h .0)) ∙ ne-eqb (firstBit m) 0 (h .1)
+
+reserved : (a : ℕ) → isReserved a ≡ true → (a ≡ 0x000000) ⊎ (a ≡ 0xFFFFFF)
+unfolding isReserved
+reserved a e = by (or-cases (eqb a 0) (eqb a everyone) e)
+  where
+    by : (eqb a 0 ≡ true) ⊎ (eqb a everyone ≡ true) → (a ≡ 0x000000) ⊎ (a ≡ 0xFFFFFF)
+    by (inl p) = inl (eqb-true a 0 p)
+    by (inr p) = inr (eqb-true a everyone p)
+
+is-reserved : (a : ℕ) → (a ≡ 0x000000) ⊎ (a ≡ 0xFFFFFF) → isReserved a ≡ true
+unfolding isReserved
+is-reserved a (inl e) = ap (λ (x : Bool). x || eqb a everyone) (eq-eqb a 0 e)
+is-reserved a (inr e) = or-second (eqb a 0) (eqb a everyone) (eq-eqb a everyone e)
+
+failed-wrong : (p : Part) → passes p ≡ false → Wrong p
+unfolding passes Wrong isMessageLength isFieldLength isWord
+failed-wrong (message m) e = either-false (length m) 7 14 .0 e
+failed-wrong (field f) e = either-false (length f) 4 11 .0 e
+failed-wrong (confidence m c) e = eqb-false (length c) (length m) e
+failed-wrong (word w) e = leb-false w 0xFFFFFF e
+failed-wrong (limit l) e = leb-false l 24 e
+failed-wrong (judged m) e = first-bit-wrong m e
+failed-wrong (ownAddress a) e = reserved a (not-false (isReserved a) e)
+
+wrong-failed : (p : Part) → Wrong p → passes p ≡ false
+unfolding passes Wrong isMessageLength isFieldLength isWord
+wrong-failed (message m) h = either-false (length m) 7 14 .1 h
+wrong-failed (field f) h = either-false (length f) 4 11 .1 h
+wrong-failed (confidence m c) h = ne-eqb (length c) (length m) h
+wrong-failed (word w) h = lt-leb w 0xFFFFFF h
+wrong-failed (limit l) h = lt-leb l 24 h
+wrong-failed (judged m) h = wrong-first-bit m h
+wrong-failed (ownAddress a) h = ap not (is-reserved a h)
+
+-- ---- a chain of tests
+
+chain : List Part → Outcome → Outcome
+chain [] o = o
+chain (p ∷ ps) o = unless (passes p) (row p) (chain ps o)
+
+-- the rows of the parts are in the order of the table
+From : ℕ → List Part → Type 0
+From n [] = Unit
+From n (p ∷ ps) = (n ≤ row p) × From (row p) ps
+
+from-lower : (n : ℕ) (ps : List Part) → From n ps → (k : ℕ) → SomeBreaks k ps → n ≤ k
+unfolding From SomeBreaks Breaks
+from-lower n [] f k s = absurd s
+from-lower n (p ∷ ps) f k (inl b) = omega (arith, f .0, b .0)
+from-lower n (p ∷ ps) f k (inr s) = omega (arith, f .0, from-lower (row p) ps (f .1) k s)
+
+Lowest : ℕ → List Part → Type 0
+Lowest n ps = SomeBreaks n ps × ((k : ℕ) → k < n → SomeBreaks k ps → ⊥)
+
+module _ (o : Outcome) (answered : Unrefused o) where
+  refused-lowest : (n j : ℕ) (ps : List Part) → From j ps → chain ps o ≡ refusal n → Lowest n ps
+  unfolding chain From Lowest SomeBreaks Breaks
+  refused-lowest n j [] f e = absurd (answered n e)
+  refused-lowest n j (p ∷ ps) f e = by (passes p) refl e (refused-lowest n (row p) ps (f .1))
+    where
+      by : (t : Bool) → passes p ≡ t → unless t (row p) (chain ps o) ≡ refusal n → (chain ps o ≡ refusal n → Lowest n ps) → Lowest n (p ∷ ps)
+      by true q g rest = (inr (rest g .0), λ k l s. none k l s (rest g .1))
+        where
+          none : (k : ℕ) → k < n → SomeBreaks k (p ∷ ps) → ((k : ℕ) → k < n → SomeBreaks k ps → ⊥) → ⊥
+          none k l (inl b) lower = never q (wrong-failed p (b .1))
+          none k l (inr s) lower = lower k l s
+      by false q g rest = (inl (same, failed-wrong p q), λ k l s. none k l s)
+        where
+          same : row p ≡ n
+          same = cc
+
+          none : (k : ℕ) → k < n → SomeBreaks k (p ∷ ps) → ⊥
+          none k l (inl b) = lt-irrefl k (subst (λ (x : ℕ). k < x) (sym same ∙ b .0) l)
+          none k l (inr s) = omega (arith, same, from-lower (row p) ps (f .1) k s)
+
+  lowest-refused : (n j : ℕ) (ps : List Part) → From j ps → Lowest n ps → chain ps o ≡ refusal n
+  unfolding chain From Lowest SomeBreaks Breaks
+  lowest-refused n j [] f h = absurd (h .0)
+  lowest-refused n j (p ∷ ps) f h = by (passes p) refl (h .0) (lowest-refused n (row p) ps (f .1))
+    where
+      by : (t : Bool) → passes p ≡ t → SomeBreaks n (p ∷ ps) → (Lowest n ps → chain ps o ≡ refusal n) → unless t (row p) (chain ps o) ≡ refusal n
+      by true q (inl b) rest = absurd (never q (wrong-failed p (b .1)))
+      by true q (inr s) rest = rest (s, λ k l x. h .1 k l (inr x))
+      by false q (inl b) rest = ap refusal (b .0)
+      by false q (inr s) rest = equal (eq-or-lt-of-le (from-lower (row p) ps (f .1) n s))
+        where
+          equal : (row p ≡ n) ⊎ (row p < n) → refusal (row p) ≡ refusal n
+          equal (inl e) = ap refusal e
+          equal (inr l) = absurd (h .1 (row p) l (inl (refl, failed-wrong p q)))
+
+  unrefused-none : (ps : List Part) → Unrefused (chain ps o) → (n : ℕ) → SomeBreaks n ps → ⊥
+  unfolding chain SomeBreaks Breaks
+  unrefused-none [] u n s = s
+  unrefused-none (p ∷ ps) u n s = by (passes p) refl u s (unrefused-none ps)
+    where
+      by : (t : Bool) → passes p ≡ t → Unrefused (unless t (row p) (chain ps o)) → SomeBreaks n (p ∷ ps)
+          → (Unrefused (chain ps o) → (n : ℕ) → SomeBreaks n ps → ⊥) → ⊥
+      by true q v (inl b) rest = never q (wrong-failed p (b .1))
+      by true q v (inr s) rest = rest v n s
+      by false q v s rest = v (row p) refl
+
+  none-unrefused : (ps : List Part) → ((n : ℕ) → SomeBreaks n ps → ⊥) → Unrefused (chain ps o)
+  unfolding chain SomeBreaks Breaks
+  none-unrefused [] h = answered
+  none-unrefused (p ∷ ps) h = by (passes p) refl (none-unrefused ps)
+    where
+      by : (t : Bool) → passes p ≡ t → (((n : ℕ) → SomeBreaks n ps → ⊥) → Unrefused (chain ps o)) → Unrefused (unless t (row p) (chain ps o))
+      by true q rest = rest (λ n s. h n (inr s))
+      by false q rest = absurd (h (row p) (inl (refl, failed-wrong p q)))
+
+-- ---- each call is such a chain
+
+-- what a call answers where no row applies
+final : Call → Outcome
+final (registerStep r b) = value (shiftIn 1 r (bitOf b))
+final (registerBack r) = value (backward r)
+final (uplinkOverlay a) = value (overlay a)
+final (fieldParity f) = value (parity (number f))
+final (messageRemainder m) = value (remainder (number m))
+final (readAddress m) = value (addressRead (number m))
+final (sealReply m w) = done
+final (sealInterrogation m a) = done
+final (receive own m) = said (receptionOf own (addressRead (number m)) (formatNumber m))
+final (correct m c w l) = decisionAnswer m (syndrome m w) (decisionOf m c w l)
+
+is-chain : (c : Call) → chain (handed c) (final c) ≡ outcome c
+unfolding chain passes row handed final outcome registerAnswer backwardAnswer overlayAnswer parityAnswer remainderAnswer addressAnswer sealOutcome receptionOutcome sensorOutcome checked
+is-chain (registerStep r b) = refl
+is-chain (registerBack r) = refl
+is-chain (uplinkOverlay a) = refl
+is-chain (fieldParity f) = refl
+is-chain (messageRemainder m) = refl
+is-chain (readAddress m) = refl
+is-chain (sealReply m w) = refl
+is-chain (sealInterrogation m a) = refl
+is-chain (receive own m) = refl
+is-chain (correct m c w l) = refl
+
+in-order : (c : Call) → From 0 (handed c)
+unfolding From handed row
+in-order (registerStep r b) = (lit≤ tt, tt)
+in-order (registerBack r) = (lit≤ tt, tt)
+in-order (uplinkOverlay a) = (lit≤ tt, tt)
+in-order (fieldParity f) = (lit≤ tt, tt)
+in-order (messageRemainder m) = (lit≤ tt, tt)
+in-order (readAddress m) = (lit≤ tt, tt)
+in-order (sealReply m w) = (lit≤ tt, (lit≤ tt, (lit≤ tt, tt)))
+in-order (sealInterrogation m a) = (lit≤ tt, (lit≤ tt, (lit≤ tt, tt)))
+in-order (receive own m) = (lit≤ tt, (lit≤ tt, (lit≤ tt, (lit≤ tt, tt))))
+in-order (correct m c w l) = (lit≤ tt, (lit≤ tt, (lit≤ tt, (lit≤ tt, tt))))
+
+reception-final : (own a f : ℕ) (r : Reception) → Case own a f r → Unrefused (said r)
+reception-final own a f Own h n e = refusal-is-no-answer (sym e)
+reception-final own a f AllCall h n e = refusal-is-no-answer (sym e)
+reception-final own a f (NotOurs b) h n e = refusal-is-no-answer (sym e)
+reception-final own a f (Refused k) h n e = h
+
+pub decision-final : (m : List ℕ) (s : ℕ) (d : Decision) → Unrefused (decisionAnswer m s d)
+decision-final m s clean n e = refusal-is-no-answer (sym e)
+decision-final m s (dense k) n e = refusal-is-no-answer (sym e)
+decision-final m s noFit n e = refusal-is-no-answer (sym e)
+decision-final m s (corrected k o) n e = refusal-is-no-answer (sym e)
+
+is-final : (c : Call) → Unrefused (final c)
+unfolding final
+is-final (registerStep r b) n e = refusal-is-no-answer (sym e)
+is-final (registerBack r) n e = refusal-is-no-answer (sym e)
+is-final (uplinkOverlay a) n e = refusal-is-no-answer (sym e)
+is-final (fieldParity f) n e = refusal-is-no-answer (sym e)
+is-final (messageRemainder m) n e = refusal-is-no-answer (sym e)
+is-final (readAddress m) n e = refusal-is-no-answer (sym e)
+is-final (sealReply m w) n e = refusal-is-no-answer (sym e)
+is-final (sealInterrogation m a) n e = refusal-is-no-answer (sym e)
+is-final (receive own m) n e = reception-final own (addressRead (number m)) (formatNumber m) (receptionOf own (addressRead (number m)) (formatNumber m)) (case own (addressRead (number m)) (formatNumber m)) n e
+is-final (correct m c w l) n e = decision-final m (syndrome m w) (decisionOf m c w l) n e
+
+-- ---- the theorems
+
+pub refused-by-lowest : RefusedByLowest
+unfolding RefusedByLowest Applies Lowest
+refused-by-lowest c n = (
+  λ e. refused-lowest (final c) (is-final c) n 0 (handed c) (in-order c) (is-chain c ∙ e),
+  λ h. sym (is-chain c) ∙ lowest-refused (final c) (is-final c) n 0 (handed c) (in-order c) h,
+)
+
+pub unrefused-where-none : UnrefusedWhereNone
+unfolding UnrefusedWhereNone Applies
+unrefused-where-none c = (
+  λ u. unrefused-none (final c) (is-final c) (handed c) (λ n e. u n (sym (is-chain c) ∙ e)),
+  λ h n e. none-unrefused (final c) (is-final c) (handed c) h n (is-chain c ∙ e),
+)
+
+pub refused-leaves : RefusedLeaves
+unfolding RefusedLeaves outcome after lent replyAfter interrogationAfter
+refused-leaves (registerStep r b) n e = refl
+refused-leaves (registerBack r) n e = refl
+refused-leaves (uplinkOverlay a) n e = refl
+refused-leaves (fieldParity f) n e = refl
+refused-leaves (messageRemainder m) n e = refl
+refused-leaves (readAddress m) n e = refl
+refused-leaves (sealReply m w) n e = left-of _ _ m (replySeal m w) e
+refused-leaves (sealInterrogation m a) n e = left-of _ _ m (interrogationSeal m a) e
+refused-leaves (receive own m) n e = refl
+refused-leaves (correct m c w l) n e = after-refused m c w l n e

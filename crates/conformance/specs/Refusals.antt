@@ -1,0 +1,151 @@
+-- Demand 1, what concerns refusals: 'Each public entry refuses bad input by a number from the table, with all buffers
+-- unchanged', and document 01's table of refused calls: 'The lowest number that applies is returned, alone, and no lent byte
+-- changes.'
+--
+-- The table is one relation for all calls: a call hands over parts, and each row is a condition on a part. A further call is
+-- a line in each of `handed`, `outcome`, `lent` and `after`; a further row is a part.
+use Prim.Native.Nat.{ℕ, _<_}
+use mathlib.Core.Path.{_≡_}
+use mathlib.Core.Logic.{_↔_, _⊎_}
+use mathlib.Core.List.{List, [], _∷_}
+use mathlib.Core.Bool.{Bool}
+use lib.ListN.{length}
+use Rattle.outcome.specs.Outcomes.{Outcome, Unrefused}
+use Rattle.outcome.specs.Outcomes.Outcome.{refusal}
+use Rattle.outcome.specs.Refusals.{wrongLength, wrongConfidenceLength, wordTooLarge, limitTooLarge, firstBitContradicts, ownAddressReserved}
+use Rattle.message.specs.Message.{firstBit}
+use Rattle.division.specs.Answers.{registerAnswer, backwardAnswer, overlayAnswer, parityAnswer, remainderAnswer, addressAnswer}
+use Rattle.encoder.specs.Seals.{sealOutcome, replyAfter, interrogationAfter}
+use Rattle.transponder.specs.Receptions.{receptionOutcome}
+use Rattle.sensor.specs.Verdicts.{sensorOutcome, sensorAfter}
+
+-- ---- the table
+
+-- What a call hands over. A seal and the transponder judge the first bit of their message; a confidence buffer belongs to a
+-- message; a word may be an address or a register.
+pub data Part : Type 0 where
+  message : List ℕ → Part
+  field : List ℕ → Part
+  confidence : List ℕ → List ℕ → Part
+  word : ℕ → Part
+  limit : ℕ → Part
+  judged : List ℕ → Part
+  ownAddress : ℕ → Part
+
+-- The number of the row that speaks of a part,
+unfoldable pub row : Part → ℕ
+row (message m) = wrongLength
+row (field f) = wrongLength
+row (confidence m c) = wrongConfidenceLength
+row (word w) = wordTooLarge
+row (limit l) = limitTooLarge
+row (judged m) = firstBitContradicts
+row (ownAddress a) = ownAddressReserved
+
+-- and its condition: 'message not 7 or 14 bytes, or field not 4 or 11'; 'confidence length differs from message length';
+-- 'word, address or register above FFFFFF'; 'density limit above 24'; 'first bit contradicts the length', where 'a first
+-- bit 0 belongs to n = 56 and 1 to n = 112' (row 1 comes before it, so the length is one of the two); 'own address 000000
+-- or FFFFFF'.
+unfoldable pub Wrong : Part → Type 0
+Wrong (message m) = (length m ≡ 7 → ⊥) × (length m ≡ 14 → ⊥)
+Wrong (field f) = (length f ≡ 4 → ⊥) × (length f ≡ 11 → ⊥)
+Wrong (confidence m c) = length c ≡ length m → ⊥
+Wrong (word w) = 0xFFFFFF < w
+Wrong (limit l) = 24 < l
+Wrong (judged m) = ((length m ≡ 14) × (firstBit m ≡ 1 → ⊥)) ⊎ ((length m ≡ 14 → ⊥) × (firstBit m ≡ 0 → ⊥))
+Wrong (ownAddress a) = (a ≡ 0x000000) ⊎ (a ≡ 0xFFFFFF)
+
+-- ---- the calls
+
+-- The public calls that can be refused, with what they are given. The three ways to R of a field answer by one definition.
+pub data Call : Type 0 where
+  registerStep : ℕ → Bool → Call
+  registerBack : ℕ → Call
+  uplinkOverlay : ℕ → Call
+  fieldParity : List ℕ → Call
+  messageRemainder : List ℕ → Call
+  addressRead : List ℕ → Call
+  sealReply : List ℕ → ℕ → Call
+  sealInterrogation : List ℕ → ℕ → Call
+  receive : ℕ → List ℕ → Call
+  correct : List ℕ → List ℕ → ℕ → ℕ → Call
+
+-- What each hands over: the table's column 'Calls'.
+unfoldable pub handed : Call → List Part
+handed (registerStep r b) = word r ∷ []
+handed (registerBack r) = word r ∷ []
+handed (uplinkOverlay a) = word a ∷ []
+handed (fieldParity f) = field f ∷ []
+handed (messageRemainder m) = message m ∷ []
+handed (addressRead m) = message m ∷ []
+handed (sealReply m w) = message m ∷ word w ∷ judged m ∷ []
+handed (sealInterrogation m a) = message m ∷ word a ∷ judged m ∷ []
+handed (receive own m) = message m ∷ word own ∷ judged m ∷ ownAddress own ∷ []
+handed (correct m c w l) = message m ∷ confidence m c ∷ word w ∷ limit l ∷ []
+
+-- What each answers: the definition that its contract names.
+unfoldable pub outcome : Call → Outcome
+outcome (registerStep r b) = registerAnswer r b
+outcome (registerBack r) = backwardAnswer r
+outcome (uplinkOverlay a) = overlayAnswer a
+outcome (fieldParity f) = parityAnswer f
+outcome (messageRemainder m) = remainderAnswer m
+outcome (addressRead m) = addressAnswer m
+outcome (sealReply m w) = sealOutcome m w
+outcome (sealInterrogation m a) = sealOutcome m a
+outcome (receive own m) = receptionOutcome own m
+outcome (correct m c w l) = sensorOutcome m c w l
+
+-- The buffer that each is lent to write in, and what it holds after the call; no bytes where nothing is lent so.
+unfoldable pub lent : Call → List ℕ
+lent (registerStep r b) = []
+lent (registerBack r) = []
+lent (uplinkOverlay a) = []
+lent (fieldParity f) = []
+lent (messageRemainder m) = []
+lent (addressRead m) = []
+lent (sealReply m w) = m
+lent (sealInterrogation m a) = m
+lent (receive own m) = []
+lent (correct m c w l) = m
+
+unfoldable pub after : Call → List ℕ
+after (registerStep r b) = []
+after (registerBack r) = []
+after (uplinkOverlay a) = []
+after (fieldParity f) = []
+after (messageRemainder m) = []
+after (addressRead m) = []
+after (sealReply m w) = replyAfter m w
+after (sealInterrogation m a) = interrogationAfter m a
+after (receive own m) = []
+after (correct m c w l) = sensorAfter m c w l
+
+-- ---- the statements
+
+-- A part of which row n speaks, and to which it applies.
+unfoldable pub Breaks : ℕ → Part → Type 0
+Breaks n p = (row p ≡ n) × Wrong p
+
+-- One of some parts is such.
+unfoldable pub SomeBreaks : ℕ → List Part → Type 0
+SomeBreaks n [] = ⊥
+SomeBreaks n (p ∷ ps) = Breaks n p ⊎ SomeBreaks n ps
+
+-- Row n of the table applies to the call.
+unfoldable pub Applies : ℕ → Call → Type 0
+Applies n c = SomeBreaks n (handed c)
+
+-- 'The lowest number that applies is returned, alone': a call is refused with n exactly when row n applies to it and no
+-- lower row does.
+unfoldable pub RefusedByLowest : Type 0
+RefusedByLowest =
+    (c : Call) (n : ℕ) → (outcome c ≡ refusal n) ↔ (Applies n c × ((k : ℕ) → k < n → Applies k c → ⊥))
+
+-- It is refused by no number exactly when no row applies.
+unfoldable pub UnrefusedWhereNone : Type 0
+UnrefusedWhereNone = (c : Call) → Unrefused (outcome c) ↔ ((n : ℕ) → Applies n c → ⊥)
+
+-- 'and no lent byte changes'
+unfoldable pub RefusedLeaves : Type 0
+RefusedLeaves = (c : Call) (n : ℕ) → outcome c ≡ refusal n → after c ≡ lent c

@@ -1,0 +1,4 @@
+-- The laws of answers and refusals.
+pub mod Small
+pub mod Picking
+pub mod Laws

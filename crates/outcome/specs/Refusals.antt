@@ -1,0 +1,21 @@
+-- The table of refused calls (document 01), by its numbers. What each row says of which call is the relation of the
+-- conformance crate's specs/Refusals.antt.
+use Prim.Native.Nat.{ℕ}
+
+abbrev pub wrongLength : ℕ
+wrongLength = 1
+
+abbrev pub wrongConfidenceLength : ℕ
+wrongConfidenceLength = 2
+
+abbrev pub wordTooLarge : ℕ
+wordTooLarge = 3
+
+abbrev pub limitTooLarge : ℕ
+limitTooLarge = 4
+
+abbrev pub firstBitContradicts : ℕ
+firstBitContradicts = 5
+
+abbrev pub ownAddressReserved : ℕ
+ownAddressReserved = 6

@@ -1,0 +1,3 @@
+-- The laws of a well-formed line.
+pub mod Formed
+pub mod Laws

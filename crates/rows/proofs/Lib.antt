@@ -1,1 +1,0 @@
--- The proofs of the rows cite the laws of division.

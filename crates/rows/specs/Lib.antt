@@ -1,2 +1,0 @@
--- What a reader must believe of the rows.
-pub mod Rows
