@@ -5,5 +5,6 @@ pub mod Bursts
 pub mod Accepting
 pub mod Right
 pub mod Correcting
+pub mod Altitudes
 pub mod Bench
 pub mod Instances

@@ -4,12 +4,14 @@
 use mathlib.Core.Path.{_≡_, refl, sym, ap, _∙_, subst}
 use mathlib.Core.Logic.{_⊎_, inl, inr, _↔_}
 use mathlib.Core.List.{List, [], _∷_}
-use mathlib.Core.Bool.{Bool, true, false, not, _||_}
-use Prim.Native.Nat.{ℕ, _<_, _≤_}
+use mathlib.Core.Bool.{Bool, true, false, not, cond, _&&_, _||_}
+use Prim.Native.Nat.{ℕ, _%_, _<_, _≤_}
 use native.Mathlib.Nat.{eq-or-lt-of-le, lt-irrefl}
 use native.Mathlib.Omega.{arith}
-use lib.Dec.{eqb, leb, lit≤}
+use lib.Dec.{T, eqb, leb, lit≤, lt→ltb}
+use lib.IntN.{ℤ, pos, negsuc, natAbs}
 use lib.ListN.{length}
+use lib.Signed.{leZ, _≤ℤ_, _<ℤ_, clashℤ}
 use borrow.Author.Tests.{eqb-true, eqb-false, eq-eqb, ne-eqb, leb-false, lt-leb, not-false}
 use Rattle.outcome.specs.Outcomes.{Outcome, value, done, unless, Unrefused}
 use Rattle.outcome.specs.Outcomes.Outcome.{refusal}
@@ -25,9 +27,15 @@ use Rattle.transponder.proofs.Laws.{Case, case}
 use Rattle.sensor.specs.Verdicts.{syndrome, Decision, decisionOf, decisionAnswer, checked, sensorOutcome}
 use Rattle.sensor.specs.Verdicts.Decision.{clean, dense, noFit, corrected}
 use Rattle.sensor.proofs.Laws.{after-refused}
+use Rattle.altitude_code.specs.Altitudes.{lowest, highest, inCode}
+use Rattle.altitude_code.proofs.Laws.{was-in-code}
+use Rattle.altitude.specs.Fields.{hasAltitude}
+use Rattle.altitude.specs.Answers.{saidAltitude, saidWriting, readingOf, readingOutcome, writingOutcome}
+use Rattle.altitude.specs.declared.Writing.the-variants.{Written, NoSuchField}
+use Rattle.altitude.proofs.Laws.{reading-final, left-refused}
 use Rattle.conformance.specs.Refusals.{Part, row, Wrong, Call, handed, outcome, lent, after, Breaks, SomeBreaks, Applies, RefusedByLowest, UnrefusedWhereNone, RefusedLeaves}
-use Rattle.conformance.specs.Refusals.Part.{message, field, confidence, word, limit, judged, ownAddress}
-use Rattle.conformance.specs.Refusals.Call.{registerStep, registerBack, uplinkOverlay, fieldParity, messageRemainder, addressRead as readAddress, sealReply, sealInterrogation, receive, correct}
+use Rattle.conformance.specs.Refusals.Part.{message, field, confidence, word, limit, judged, ownAddress, altitude}
+use Rattle.conformance.specs.Refusals.Call.{registerStep, registerBack, uplinkOverlay, fieldParity, messageRemainder, addressRead as readAddress, sealReply, sealInterrogation, receive, correct, readAltitude, writeAltitude}
 
 -- ---- the test of each part
 
@@ -39,6 +47,7 @@ passes (word w) = isWord w
 passes (limit l) = leb l 24
 passes (judged m) = firstBitAgrees m
 passes (ownAddress a) = not (isReserved a)
+passes (altitude z s) = inCode z s
 
 -- two tests of equality, either of which will do
 either-false : (a b c : ℕ) → ((eqb a b || eqb a c) ≡ false) ↔ ((a ≡ b → ⊥) × (a ≡ c → ⊥))
@@ -79,6 +88,43 @@ unfolding isReserved
 is-reserved a (inl e) = ap (λ (x : Bool). x || eqb a everyone) (eq-eqb a 0 e)
 is-reserved a (inr e) = or-second (eqb a 0) (eqb a everyone) (eq-eqb a everyone e)
 
+-- the order of the integers, by its test
+not-le : (a b : ℤ) → leZ a b ≡ false → b <ℤ a
+not-le (pos a) (pos b) e = record { lt = lt→ltb b a (leb-false a b e) }
+not-le (pos a) (negsuc b) e = record { lt = tt }
+not-le (negsuc a) (pos b) e = absurd (never refl e)
+not-le (negsuc a) (negsuc b) e = record { lt = lt→ltb a b (leb-false b a e) }
+
+is-le : (a b : ℤ) → leZ a b ≡ true → a ≤ℤ b
+is-le a b e = record { le = subst T (sym e) tt }
+
+-- an altitude that the code of its step does not have
+not-in-code : (z : ℤ) (s : ℕ) → inCode z s ≡ false → ((s ≡ 25 → ⊥) × (s ≡ 100 → ⊥)) ⊎ ((natAbs z % s ≡ 0 → ⊥) ⊎ ((z <ℤ lowest s) ⊎ (highest s <ℤ z)))
+unfolding inCode
+not-in-code z s e = by (eqb s 25 || eqb s 100) refl (eqb (natAbs z % s) 0) refl (leZ (lowest s) z) refl (leZ z (highest s)) refl e
+  where
+    by : (a : Bool) → (eqb s 25 || eqb s 100) ≡ a → (b : Bool) → eqb (natAbs z % s) 0 ≡ b → (c : Bool) → leZ (lowest s) z ≡ c → (d : Bool) → leZ z (highest s) ≡ d
+        → (a && (b && (c && d))) ≡ false → ((s ≡ 25 → ⊥) × (s ≡ 100 → ⊥)) ⊎ ((natAbs z % s ≡ 0 → ⊥) ⊎ ((z <ℤ lowest s) ⊎ (highest s <ℤ z)))
+    by false p b q c r d t e = inl (either-false s 25 100 .0 p)
+    by true p false q c r d t e = inr (inl (eqb-false _ _ q))
+    by true p true q false r d t e = inr (inr (inl (not-le (lowest s) z r)))
+    by true p true q true r false t e = inr (inr (inr (not-le z (highest s) t)))
+    by true p true q true r true t e = absurd (never refl e)
+
+not-of-code : (z : ℤ) (s : ℕ) → ((s ≡ 25 → ⊥) × (s ≡ 100 → ⊥)) ⊎ ((natAbs z % s ≡ 0 → ⊥) ⊎ ((z <ℤ lowest s) ⊎ (highest s <ℤ z))) → inCode z s ≡ false
+not-of-code z s h = by (inCode z s) refl h
+  where
+    by : (t : Bool) → inCode z s ≡ t → ((s ≡ 25 → ⊥) × (s ≡ 100 → ⊥)) ⊎ ((natAbs z % s ≡ 0 → ⊥) ⊎ ((z <ℤ lowest s) ⊎ (highest s <ℤ z))) → t ≡ false
+    by false e h = refl
+    by true e (inl n) = absurd (step (was-in-code z s e .step) n)
+      where
+        step : (s ≡ 25) ⊎ (s ≡ 100) → (s ≡ 25 → ⊥) × (s ≡ 100 → ⊥) → ⊥
+        step (inl p) n = n .0 p
+        step (inr p) n = n .1 p
+    by true e (inr (inl n)) = absurd (n (was-in-code z s e .multiple))
+    by true e (inr (inr (inl n))) = clashℤ n (is-le (lowest s) z (was-in-code z s e .from-lowest))
+    by true e (inr (inr (inr n))) = clashℤ n (is-le z (highest s) (was-in-code z s e .to-highest))
+
 failed-wrong : (p : Part) → passes p ≡ false → Wrong p
 unfolding passes Wrong isMessageLength isFieldLength isWord
 failed-wrong (message m) e = either-false (length m) 7 14 .0 e
@@ -88,6 +134,7 @@ failed-wrong (word w) e = leb-false w 0xFFFFFF e
 failed-wrong (limit l) e = leb-false l 24 e
 failed-wrong (judged m) e = first-bit-wrong m e
 failed-wrong (ownAddress a) e = reserved a (not-false (isReserved a) e)
+failed-wrong (altitude z s) e = not-in-code z s e
 
 wrong-failed : (p : Part) → Wrong p → passes p ≡ false
 unfolding passes Wrong isMessageLength isFieldLength isWord
@@ -98,6 +145,7 @@ wrong-failed (word w) h = lt-leb w 0xFFFFFF h
 wrong-failed (limit l) h = lt-leb l 24 h
 wrong-failed (judged m) h = wrong-first-bit m h
 wrong-failed (ownAddress a) h = ap not (is-reserved a h)
+wrong-failed (altitude z s) h = not-of-code z s h
 
 -- ---- a chain of tests
 
@@ -189,9 +237,11 @@ final (sealReply m w) = done
 final (sealInterrogation m a) = done
 final (receive own m) = said (receptionOf own (addressRead (number m)) (formatNumber m))
 final (correct m c w l) = decisionAnswer m (syndrome m w) (decisionOf m c w l)
+final (readAltitude m) = saidAltitude (readingOf m)
+final (writeAltitude m z s) = saidWriting (cond (hasAltitude m) Written NoSuchField)
 
 is-chain : (c : Call) → chain (handed c) (final c) ≡ outcome c
-unfolding chain passes row handed final outcome registerAnswer backwardAnswer overlayAnswer parityAnswer remainderAnswer addressAnswer sealOutcome receptionOutcome sensorOutcome checked
+unfolding chain passes row handed final outcome registerAnswer backwardAnswer overlayAnswer parityAnswer remainderAnswer addressAnswer sealOutcome receptionOutcome sensorOutcome checked readingOutcome writingOutcome
 is-chain (registerStep r b) = refl
 is-chain (registerBack r) = refl
 is-chain (uplinkOverlay a) = refl
@@ -202,6 +252,8 @@ is-chain (sealReply m w) = refl
 is-chain (sealInterrogation m a) = refl
 is-chain (receive own m) = refl
 is-chain (correct m c w l) = refl
+is-chain (readAltitude m) = refl
+is-chain (writeAltitude m z s) = refl
 
 in-order : (c : Call) → From 0 (handed c)
 unfolding From handed row
@@ -215,6 +267,8 @@ in-order (sealReply m w) = (lit≤ tt, (lit≤ tt, (lit≤ tt, tt)))
 in-order (sealInterrogation m a) = (lit≤ tt, (lit≤ tt, (lit≤ tt, tt)))
 in-order (receive own m) = (lit≤ tt, (lit≤ tt, (lit≤ tt, (lit≤ tt, tt))))
 in-order (correct m c w l) = (lit≤ tt, (lit≤ tt, (lit≤ tt, (lit≤ tt, tt))))
+in-order (readAltitude m) = (lit≤ tt, (lit≤ tt, tt))
+in-order (writeAltitude m z s) = (lit≤ tt, (lit≤ tt, (lit≤ tt, tt)))
 
 reception-final : (own a f : ℕ) (r : Reception) → Case own a f r → Unrefused (said r)
 reception-final own a f Own h n e = refusal-is-no-answer (sym e)
@@ -228,6 +282,10 @@ decision-final m s (dense k) n e = refusal-is-no-answer (sym e)
 decision-final m s noFit n e = refusal-is-no-answer (sym e)
 decision-final m s (corrected k o) n e = refusal-is-no-answer (sym e)
 
+writing-final : (t : Bool) → Unrefused (saidWriting (cond t Written NoSuchField))
+writing-final true n e = refusal-is-no-answer (sym e)
+writing-final false n e = refusal-is-no-answer (sym e)
+
 is-final : (c : Call) → Unrefused (final c)
 unfolding final
 is-final (registerStep r b) n e = refusal-is-no-answer (sym e)
@@ -240,6 +298,8 @@ is-final (sealReply m w) n e = refusal-is-no-answer (sym e)
 is-final (sealInterrogation m a) n e = refusal-is-no-answer (sym e)
 is-final (receive own m) n e = reception-final own (addressRead (number m)) (formatNumber m) (receptionOf own (addressRead (number m)) (formatNumber m)) (case own (addressRead (number m)) (formatNumber m)) n e
 is-final (correct m c w l) n e = decision-final m (syndrome m w) (decisionOf m c w l) n e
+is-final (readAltitude m) n e = reading-final m n e
+is-final (writeAltitude m z s) n e = writing-final (hasAltitude m) n e
 
 -- ---- the theorems
 
@@ -269,3 +329,5 @@ refused-leaves (sealReply m w) n e = left-of _ _ m (replySeal m w) e
 refused-leaves (sealInterrogation m a) n e = left-of _ _ m (interrogationSeal m a) e
 refused-leaves (receive own m) n e = refl
 refused-leaves (correct m c w l) n e = after-refused m c w l n e
+refused-leaves (readAltitude m) n e = refl
+refused-leaves (writeAltitude m z s) n e = sym (left-refused m z s n (sym e))

@@ -5,4 +5,5 @@ pub mod Sealing
 pub mod Bursts
 pub mod Accepting
 pub mod Correcting
+pub mod Altitudes
 pub mod Bench

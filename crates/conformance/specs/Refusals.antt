@@ -4,25 +4,29 @@
 --
 -- The table is one relation for all calls: a call hands over parts, and each row is a condition on a part. A further call is
 -- a line in each of `handed`, `outcome`, `lent` and `after`; a further row is a part.
-use Prim.Native.Nat.{ℕ, _<_}
+use Prim.Native.Nat.{ℕ, _%_, _<_}
 use mathlib.Core.Path.{_≡_}
 use mathlib.Core.Logic.{_↔_, _⊎_}
 use mathlib.Core.List.{List, [], _∷_}
 use mathlib.Core.Bool.{Bool}
+use lib.IntN.{ℤ, natAbs}
 use lib.ListN.{length}
+use lib.Signed.{_<ℤ_}
 use Rattle.outcome.specs.Outcomes.{Outcome, Unrefused}
 use Rattle.outcome.specs.Outcomes.Outcome.{refusal}
-use Rattle.outcome.specs.Refusals.{wrongLength, wrongConfidenceLength, wordTooLarge, limitTooLarge, firstBitContradicts, ownAddressReserved}
+use Rattle.outcome.specs.Refusals.{wrongLength, wrongConfidenceLength, wordTooLarge, limitTooLarge, firstBitContradicts, ownAddressReserved, altitudeNotInCode}
 use Rattle.message.specs.Message.{firstBit}
 use Rattle.division.specs.Answers.{registerAnswer, backwardAnswer, overlayAnswer, parityAnswer, remainderAnswer, addressAnswer}
 use Rattle.encoder.specs.Seals.{sealOutcome, replyAfter, interrogationAfter}
 use Rattle.transponder.specs.Receptions.{receptionOutcome}
 use Rattle.sensor.specs.Verdicts.{sensorOutcome, sensorAfter}
+use Rattle.altitude_code.specs.Altitudes.{lowest, highest}
+use Rattle.altitude.specs.Answers.{readingOutcome, writingOutcome, writingAfter}
 
 -- ---- the table
 
--- What a call hands over. A seal and the transponder judge the first bit of their message; a confidence buffer belongs to a
--- message; a word may be an address or a register.
+-- What a call hands over. A seal, the transponder and the altitude's calls judge the first bit of their message; a confidence
+-- buffer belongs to a message; a word may be an address or a register; an altitude, in feet, has its step.
 pub data Part : Type 0 where
   message : List ℕ → Part
   field : List ℕ → Part
@@ -31,6 +35,7 @@ pub data Part : Type 0 where
   limit : ℕ → Part
   judged : List ℕ → Part
   ownAddress : ℕ → Part
+  altitude : ℤ → ℕ → Part
 
 -- The number of the row that speaks of a part,
 unfoldable pub row : Part → ℕ
@@ -41,11 +46,12 @@ row (word w) = wordTooLarge
 row (limit l) = limitTooLarge
 row (judged m) = firstBitContradicts
 row (ownAddress a) = ownAddressReserved
+row (altitude z s) = altitudeNotInCode
 
 -- and its condition: 'message not 7 or 14 bytes, or field not 4 or 11'; 'confidence length differs from message length';
 -- 'word, address or register above FFFFFF'; 'density limit above 24'; 'first bit contradicts the length', where 'a first
 -- bit 0 belongs to n = 56 and 1 to n = 112' (row 1 comes before it, so the length is one of the two); 'own address 000000
--- or FFFFFF'.
+-- or FFFFFF'; 'the step is neither 25 nor 100, or the altitude is off it or out of that code's range' (document 02, Point 1).
 unfoldable pub Wrong : Part → Type 0
 Wrong (message m) = (length m ≡ 7 → ⊥) × (length m ≡ 14 → ⊥)
 Wrong (field f) = (length f ≡ 4 → ⊥) × (length f ≡ 11 → ⊥)
@@ -54,6 +60,8 @@ Wrong (word w) = 0xFFFFFF < w
 Wrong (limit l) = 24 < l
 Wrong (judged m) = ((length m ≡ 14) × (firstBit m ≡ 1 → ⊥)) ⊎ ((length m ≡ 14 → ⊥) × (firstBit m ≡ 0 → ⊥))
 Wrong (ownAddress a) = (a ≡ 0x000000) ⊎ (a ≡ 0xFFFFFF)
+Wrong (altitude z s) =
+    ((s ≡ 25 → ⊥) × (s ≡ 100 → ⊥)) ⊎ ((natAbs z % s ≡ 0 → ⊥) ⊎ ((z <ℤ lowest s) ⊎ (highest s <ℤ z)))
 
 -- ---- the calls
 
@@ -69,6 +77,8 @@ pub data Call : Type 0 where
   sealInterrogation : List ℕ → ℕ → Call
   receive : ℕ → List ℕ → Call
   correct : List ℕ → List ℕ → ℕ → ℕ → Call
+  readAltitude : List ℕ → Call
+  writeAltitude : List ℕ → ℤ → ℕ → Call
 
 -- What each hands over: the table's column 'Calls'.
 unfoldable pub handed : Call → List Part
@@ -82,6 +92,8 @@ handed (sealReply m w) = message m ∷ word w ∷ judged m ∷ []
 handed (sealInterrogation m a) = message m ∷ word a ∷ judged m ∷ []
 handed (receive own m) = message m ∷ word own ∷ judged m ∷ ownAddress own ∷ []
 handed (correct m c w l) = message m ∷ confidence m c ∷ word w ∷ limit l ∷ []
+handed (readAltitude m) = message m ∷ judged m ∷ []
+handed (writeAltitude m z s) = message m ∷ judged m ∷ altitude z s ∷ []
 
 -- What each answers: the definition that its contract names.
 unfoldable pub outcome : Call → Outcome
@@ -95,6 +107,8 @@ outcome (sealReply m w) = sealOutcome m w
 outcome (sealInterrogation m a) = sealOutcome m a
 outcome (receive own m) = receptionOutcome own m
 outcome (correct m c w l) = sensorOutcome m c w l
+outcome (readAltitude m) = readingOutcome m
+outcome (writeAltitude m z s) = writingOutcome m z s
 
 -- The buffer that each is lent to write in, and what it holds after the call; no bytes where nothing is lent so.
 unfoldable pub lent : Call → List ℕ
@@ -108,6 +122,8 @@ lent (sealReply m w) = m
 lent (sealInterrogation m a) = m
 lent (receive own m) = []
 lent (correct m c w l) = m
+lent (readAltitude m) = []
+lent (writeAltitude m z s) = m
 
 unfoldable pub after : Call → List ℕ
 after (registerStep r b) = []
@@ -120,6 +136,8 @@ after (sealReply m w) = replyAfter m w
 after (sealInterrogation m a) = interrogationAfter m a
 after (receive own m) = []
 after (correct m c w l) = sensorAfter m c w l
+after (readAltitude m) = []
+after (writeAltitude m z s) = writingAfter m z s
 
 -- ---- the statements
 

@@ -37,6 +37,12 @@ numberBytes-number (suc k) n =
     ∙ ap₂ (λ (l r : ℕ). n / 2 ^ (8 * k) % 2 ^ 8 * 2 ^ (8 * l) + r) (numberBytes-length k n) (numberBytes-number k n)
     ∙ sym (byte-and-rest n k)
 
+-- the bytes of a list's number are the list
+pub bytes-of-number : (l : List ℕ) → Bytes l → numberBytes (length l) (number l) ≡ l
+bytes-of-number l h =
+    number-injective (numberBytes (length l) (number l)) l (numberBytes-bytes (length l) (number l)) h (numberBytes-length (length l) (number l))
+    (numberBytes-number (length l) (number l) ∙ mod-eq-of-lt (number-lt l h))
+
 -- ---- a message with bits inverted
 
 pub inverted-length : (m : List ℕ) (d : ℕ) → length (inverted m d) ≡ length m

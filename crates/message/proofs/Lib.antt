@@ -2,4 +2,5 @@
 pub mod Bytes
 pub mod Lengths
 pub mod Inverting
+pub mod Reading
 pub mod Laws

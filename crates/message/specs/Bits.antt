@@ -32,3 +32,7 @@ numberBytes (suc k) n = n / 2 ^ (8 * k) % 2 ^ 8 ∷ numberBytes k n
 -- The message with the bits d inverted.
 unfoldable pub inverted : List ℕ → ℕ → List ℕ
 inverted m d = numberBytes (length m) (bitXor (number m) d)
+
+-- Bit i of a message, from 1 for the first: 'Bit i stands for x^(n−i).'
+unfoldable pub bitAt : List ℕ → ℕ → ℕ
+bitAt m i = number m / 2 ^ (bits m - i) % 2

@@ -19,3 +19,6 @@ firstBitContradicts = 5
 
 abbrev pub ownAddressReserved : ℕ
 ownAddressReserved = 6
+
+abbrev pub altitudeNotInCode : ℕ
+altitudeNotInCode = 7

@@ -7,7 +7,8 @@ use Rattle.division.specs.Division.{parity}
 use Rattle.division.specs.Ways.{ThreeWays}
 use Rattle.division.specs.Tables.{IsByteTable}
 use Rattle.division.proofs.Fields.{three-ways}
-use Rattle.division.proofs.Table.{tabulate, tabulated, reduceBy, quickDown, quick, quick-is}
+use Rattle.outcome.proofs.Laws.{tabulate, tabulated}
+use Rattle.division.proofs.Table.{reduceBy, quickDown, quick, quick-is}
 use Rattle.division.proofs.byte_table.field_parity.Statement.{statement}
 use Rattle.division.proofs.byte_table.field_parity.Tie as tie
 

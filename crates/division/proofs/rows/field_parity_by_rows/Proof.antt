@@ -4,7 +4,8 @@ use borrow.Author.Needs.{needs}
 use mathlib.Core.Path.{_∙_}
 use Rattle.division.specs.Polynomial.{downwards}
 use Rattle.division.specs.Tables.{IsRowTable}
-use Rattle.division.proofs.Table.{tabulate, tabulated, reduceBy, quickDown, quick, quick-is}
+use Rattle.outcome.proofs.Laws.{tabulate, tabulated}
+use Rattle.division.proofs.Table.{reduceBy, quickDown, quick, quick-is}
 use Rattle.division.proofs.rows.field_parity_by_rows.Statement.{statement}
 use Rattle.division.proofs.rows.field_parity_by_rows.Tie as tie
 

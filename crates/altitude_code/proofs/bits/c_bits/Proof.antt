@@ -1,0 +1,25 @@
+-- `altitude_code::bits::c_bits` meets its contract.
+use native.Mathlib.Omega.{arith}
+use Rattle.altitude_code.specs.Codes.{cBits, binary, digit}
+use borrow.Author.Needs.{needs}
+use Rattle.altitude_code.proofs.bits.c_bits.Statement.{statement}
+use Rattle.altitude_code.proofs.bits.c_bits.Tie as tie
+
+mul-result : tie.Need-mul-result
+mul-result c = search needs
+
+mul-result-2 : tie.Need-mul-result-2
+mul-result-2 c = search needs
+
+add-result : tie.Need-add-result
+add-result c = search needs
+
+add-result-2 : tie.Need-add-result-2
+add-result-2 c = search needs
+
+returns : tie.Need-returns
+unfolding cBits binary digit
+returns c = (omega arith, omega arith)
+
+pub c-bits-spec : {M : Type 1} → statement M
+c-bits-spec = tie.close (tie.spec mul-result mul-result-2 add-result add-result-2 returns)

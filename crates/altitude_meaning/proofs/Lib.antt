@@ -1,0 +1,6 @@
+-- The theorems on what a code means.
+pub mod Tests
+pub mod Meanings
+pub mod Neighbours
+pub mod Counts
+pub mod Laws

@@ -1,0 +1,2 @@
+-- What a reader must believe of what an altitude code means.
+pub mod Meaning
