@@ -2,4 +2,5 @@
 pub mod Parts
 pub mod Appending
 pub mod Spelling
+pub mod Signs
 pub mod Laws

@@ -4,6 +4,7 @@ use Prim.Native.Nat.{ℕ, zero, suc, _+_, _/_, _%_}
 use mathlib.Core.List.{List, [], _∷_, _++_}
 use mathlib.Core.Bool.{cond}
 use lib.Dec.{ltb}
+use lib.IntN.{ℤ, pos, negsuc}
 
 -- the digit of a value below 16
 unfoldable pub digitOf : ℕ → ℕ
@@ -26,3 +27,8 @@ decimalWithin (suc bound) n = cond (ltb n 10) (digitOf n ∷ []) (decimalWithin 
 -- n has at most n + 1 digits
 unfoldable pub decimalText : ℕ → List ℕ
 decimalText n = decimalWithin (suc n) n
+
+-- a signed number: `-` in front of a negative one
+unfoldable pub signedText : ℤ → List ℕ
+signedText (pos n) = decimalText n
+signedText (negsuc n) = 45 ∷ decimalText (suc n)
