@@ -1,6 +1,8 @@
 //! What `calls` has to print for a whole input: one public call a line, four
-//! columns out (line number, answer, value, message after a seal or the sensor).
+//! columns out (line number, answer, value, message after a seal, the sensor or
+//! the writing of an altitude).
 
+use crate::altitude::{self, reading_rows, writing_rows, Altitude};
 use crate::rules::*;
 use crate::sensor::{sense, sensor_rows, Answer};
 use crate::sift::Request;
@@ -11,6 +13,9 @@ pub const MOST_STRING: usize = 32;
 
 /// The most digits of a limit.
 pub const MOST_LIMIT_DIGITS: usize = 9;
+
+/// The most digits of feet and of a step.
+pub const MOST_FEET_DIGITS: usize = 7;
 
 /// A well-formed line.
 #[derive(Debug, Clone, PartialEq, Eq)]
@@ -27,6 +32,9 @@ pub enum Call {
     Interrogation(Vec<u8>, u32),
     Transponder(Vec<u8>, u32),
     Sensor(Request),
+    Altitude(Vec<u8>),
+    /// The message, the altitude in feet and the step.
+    Write(Vec<u8>, i32, u32),
 }
 
 /// What a call answers.
@@ -39,6 +47,9 @@ pub enum Reply {
     NotOurs(u32),
     /// The sensor's answer, which is no refusal, and the message after the call.
     Sensed(Answer, Vec<u8>),
+    Said(Altitude),
+    Written(Vec<u8>),
+    NoSuchField,
     Refused(u8),
 }
 
@@ -86,6 +97,12 @@ pub fn read(line: &[u8]) -> Option<Call> {
             word: word(c)?,
             limit: decimal_number(d, MOST_LIMIT_DIGITS)?,
         }),
+        [b"altitude", a] => Call::Altitude(byte_string(a)?),
+        [b"write", a, b, c] => Call::Write(
+            byte_string(a)?,
+            signed_number(b, MOST_FEET_DIGITS)?,
+            decimal_number(c, MOST_FEET_DIGITS)?,
+        ),
         _ => return None,
     })
 }
@@ -109,6 +126,8 @@ pub fn rows(call: &Call) -> Vec<u8> {
         Call::Sensor(Request { message, confidence, word, limit }) => {
             sensor_rows(message, confidence, *word, *limit)
         }
+        Call::Altitude(message) => reading_rows(message),
+        Call::Write(message, feet, step) => writing_rows(message, *feet, *step),
     }
 }
 
@@ -138,6 +157,10 @@ pub fn answer(call: &Call) -> Reply {
             let verdict = sense(message, confidence, *word, *limit);
             Reply::Sensed(verdict.answer, verdict.message)
         }
+        Call::Altitude(message) => altitude::read(message).map_or(Reply::NoSuchField, Reply::Said),
+        Call::Write(message, feet, step) => {
+            altitude::write(message, *feet, *step).map_or(Reply::NoSuchField, Reply::Written)
+        }
     }
 }
 
@@ -165,6 +188,27 @@ fn sensed_value(answer: Answer) -> String {
     }
 }
 
+fn altitude_columns(said: Altitude) -> String {
+    match said {
+        Altitude::Feet(feet) => format!("feet {feet} -"),
+        Altitude::NoAltitude => "none - -".to_string(),
+        Altitude::Metric => "metric - -".to_string(),
+        Altitude::Illegal => "illegal - -".to_string(),
+    }
+}
+
+/// The last column of a call that changed nothing: the message, where the call is
+/// lent one to write in.
+fn unchanged(call: &Call) -> String {
+    match call {
+        Call::Reply(message, _)
+        | Call::Interrogation(message, _)
+        | Call::Sensor(Request { message, .. })
+        | Call::Write(message, ..) => hex_or_dash(message),
+        _ => "-".to_string(),
+    }
+}
+
 /// The output line for what came of line `number`.
 pub fn print(number: usize, judged: &Judged) -> String {
     let Some((call, reply)) = judged else {
@@ -179,14 +223,10 @@ pub fn print(number: usize, judged: &Judged) -> String {
         Reply::Sensed(answer, message) => {
             format!("{} {} {}", answer.word(), sensed_value(*answer), hex_or_dash(message))
         }
-        Reply::Refused(row) => match call {
-            Call::Reply(message, _)
-            | Call::Interrogation(message, _)
-            | Call::Sensor(Request { message, .. }) => {
-                format!("refused {row} {}", hex_or_dash(message))
-            }
-            _ => format!("refused {row} -"),
-        },
+        Reply::Said(altitude) => altitude_columns(*altitude),
+        Reply::Written(message) => format!("written - {}", hex_or_dash(message)),
+        Reply::NoSuchField => format!("nofield - {}", unchanged(call)),
+        Reply::Refused(row) => format!("refused {row} {}", unchanged(call)),
     };
     format!("{number} {columns}\n")
 }
@@ -232,6 +272,30 @@ mod tests {
     }
 
     #[test]
+    fn altitudes() {
+        for (line, columns) in [
+            ("altitude 20000000000000", "none - -"),
+            ("altitude 20000010000000", "feet -1000 -"),
+            ("altitude 20000100000000", "feet -1200 -"),
+            ("altitude 20000040ABCDEF", "metric - -"),
+            ("altitude 20000001000000", "illegal - -"),
+            ("altitude 28000010000000", "nofield - -"),
+            ("altitude A000000000000000000000000000", "none - -"),
+            ("altitude -", "refused 1 -"),
+            ("altitude A0000000000000", "refused 5 -"),
+            ("write 2000FFFFABCDEF -1000 25", "written - 2000E010ABCDEF"),
+            ("write 2000FFFFABCDEF -0001200 0000100", "written - 2000E100ABCDEF"),
+            ("write 20000000000000 -0 25", "written - 20000098000000"),
+            ("write 28000000ABCDEF 0 25", "nofield - 28000000ABCDEF"),
+            ("write 28000000ABCDEF 0 26", "refused 7 28000000ABCDEF"),
+            ("write - 0 26", "refused 1 -"),
+            ("write A0000000ABCDEF 1 25", "refused 5 A0000000ABCDEF"),
+        ] {
+            assert_eq!(printed(line), format!("1 {columns}\n"), "{line}");
+        }
+    }
+
+    #[test]
     fn columns_that_no_call_has() {
         for line in [
             "sensor 00000000EB2472 00008000000000 123456",
@@ -243,6 +307,16 @@ mod tests {
             "bits",
             "bits ",
             "register 000000 2",
+            "altitude 20000000000000 25",
+            "altitude",
+            "write 20000000000000 0",
+            "write 20000000000000 0 25 0",
+            "write 20000000000000 - 25",
+            "write 20000000000000 --1 25",
+            "write 20000000000000 +1 25",
+            "write 20000000000000 00000000 25",
+            "write 20000000000000 0 -25",
+            "write 20000000000000 0 00000025",
         ] {
             assert_eq!(printed(line), "1 malformed - -\n", "{line}");
         }

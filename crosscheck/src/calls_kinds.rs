@@ -1,6 +1,8 @@
 //! The kinds of lines for `calls` that a run has to meet, and what kinds a line
 //! is of.
 
+use crate::altitude::Altitude;
+use crate::altitude_kinds;
 use crate::blocks::{Aim, INPUTS, MALFORMED};
 use crate::calls::{rows, Call, Judged, Reply};
 use crate::calls_lines::*;
@@ -50,6 +52,7 @@ fn answers() -> Vec<String> {
         kinds.extend([7, 14].map(|bytes| format!("sensor {answer}, {bytes} bytes")));
     }
     kinds.extend([1, 2, 3, 4].map(|row| format!("sensor refused {row}")));
+    kinds.extend(altitude_kinds::answers());
     kinds.push("malformed".to_string());
     kinds
 }
@@ -64,6 +67,7 @@ fn together() -> Vec<String> {
         kinds.push(format!("transponder {rows}"));
     }
     kinds.extend(sensor_kinds::sets_of_rows().iter().map(|rows| format!("sensor {rows}")));
+    kinds.extend(altitude_kinds::sets_of_rows());
     kinds
 }
 
@@ -86,7 +90,8 @@ fn hit_windows() -> Vec<String> {
 
 /// All groups, with the kinds that a run has to meet.
 pub fn groups(special: &[&'static str]) -> Vec<Group> {
-    let with_bytes = [&OF_A_FIELD[..], &OF_A_MESSAGE, &OF_BOTH, &["sensor"]].concat();
+    let of_their_own = ["sensor", "altitude", "write"];
+    let with_bytes = [&OF_A_FIELD[..], &OF_A_MESSAGE, &OF_BOTH, &of_their_own].concat();
     let with_words = [&OF_A_WORD[..], &OF_BOTH, &["sensor"]].concat();
     let others = [
         ALL_OTHER_FORMAT,
@@ -112,6 +117,7 @@ pub fn groups(special: &[&'static str]) -> Vec<Group> {
         Group::each(INPUTS, special),
     ];
     groups.extend(sensor_kinds::groups());
+    groups.extend(altitude_kinds::groups());
     groups
 }
 
@@ -130,6 +136,8 @@ fn parts(call: &Call) -> (&'static str, Option<&[u8]>, Option<u32>) {
         Call::Interrogation(bytes, word) => ("interrogation", Some(bytes), Some(*word)),
         Call::Transponder(bytes, word) => ("transponder", Some(bytes), Some(*word)),
         Call::Sensor(request) => ("sensor", Some(&request.message), Some(request.word)),
+        Call::Altitude(bytes) => ("altitude", Some(bytes), None),
+        Call::Write(bytes, ..) => ("write", Some(bytes), None),
     }
 }
 
@@ -146,6 +154,12 @@ fn answer_word(judged: &Judged) -> &'static str {
             Mark::Several => "corrected several",
         },
         Some((_, Reply::Sensed(answer, _))) => answer.word(),
+        Some((_, Reply::Said(Altitude::Feet(_)))) => "feet",
+        Some((_, Reply::Said(Altitude::NoAltitude))) => "none",
+        Some((_, Reply::Said(Altitude::Metric))) => "metric",
+        Some((_, Reply::Said(Altitude::Illegal))) => "illegal",
+        Some((_, Reply::Written(_))) => "written",
+        Some((_, Reply::NoSuchField)) => "nofield",
         Some((_, Reply::Refused(_))) => "refused",
     }
 }
@@ -169,7 +183,8 @@ pub fn count(tally: &mut Tally, line: &[u8], judged: &Judged, aim: Option<&Aim>)
         _ => tally.add(ANSWERS, format!("{name} {answer}{length}")),
     }
     let rows: Vec<String> = rows(call).iter().map(u8::to_string).collect();
-    if !rows.is_empty() && (OF_BOTH.contains(&name) || name == "sensor") {
+    let several = [&OF_BOTH[..], &["sensor", "altitude", "write"]].concat();
+    if !rows.is_empty() && several.contains(&name) {
         tally.add(TOGETHER, format!("{name} {}", rows.join(", ")));
     }
     if let Some(bytes) = bytes {
@@ -182,6 +197,7 @@ pub fn count(tally: &mut Tally, line: &[u8], judged: &Judged, aim: Option<&Aim>)
     if let Call::Sensor(request) = call {
         sensor_kinds::count(tally, line, request, reply);
     }
+    altitude_kinds::count(tally, line, call, reply);
     count_others(tally, call, reply);
 }
 

@@ -1,7 +1,8 @@
 //! Lines for `calls`: every call on both lengths, every refusal alone and with
 //! another, interrogations hit by a burst, and malformed lines. Those of the
-//! sensor are made by `sensor_lines`.
+//! sensor are made by `sensor_lines`, those of altitudes by `altitude_lines`.
 
+use crate::altitude_lines;
 use crate::blocks::{Made, MALFORMED};
 use crate::defects::*;
 use crate::poly::*;
@@ -250,8 +251,8 @@ fn refused_twice(random: &mut Random) -> Vec<Made> {
     lines
 }
 
-/// A well-formed line, as columns, of a call other than the sensor's that is not
-/// refused.
+/// A well-formed line, as columns, that is not refused, of a call other than the
+/// sensor's and those of altitudes.
 fn well_formed(random: &mut Random) -> Vec<Column> {
     let all = [&OF_A_WORD[..], &OF_A_FIELD, &OF_A_MESSAGE, &OF_BOTH].concat();
     let name = *random.pick(&all);
@@ -264,12 +265,12 @@ fn well_formed(random: &mut Random) -> Vec<Column> {
     call(random, name, &bytes, value)
 }
 
-/// A well-formed line, one time in twelve of the sensor.
+/// A well-formed line, one time in twelve of the sensor, and one of an altitude.
 pub fn any_line(random: &mut Random) -> Vec<u8> {
-    if random.one_in(12) {
-        join(&sensor_lines::well_formed(random))
-    } else {
-        join(&well_formed(random))
+    match random.below(12) {
+        0 => join(&sensor_lines::well_formed(random)),
+        1 => join(&altitude_lines::well_formed(random)),
+        _ => join(&well_formed(random)),
     }
 }
 
@@ -326,6 +327,7 @@ pub fn round(random: &mut Random) -> Vec<Made> {
     let mut lines = spoiled(random, MALFORMED, defects(), well_formed);
     lines.extend(all_lengths(random));
     lines.extend(sensor_lines::round(random));
+    lines.extend(altitude_lines::round(random));
     for length in [7, 14] {
         lines.extend(windows(8 * length).map(|window| hit(random, length, window)));
         lines.push(generator_added(random, length));

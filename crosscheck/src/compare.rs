@@ -7,12 +7,14 @@ use crate::random::Random;
 use crate::run::{first_difference, run_and_hear, Written};
 use crate::tally::Tally;
 use crate::text::MOST_BYTES;
-use crate::{calls, calls_kinds, calls_lines, fast_calls, fast_sift, hit_replies, selftest};
+use crate::{
+    altitude_lines, calls, calls_kinds, calls_lines, fast_calls, fast_sift, hit_replies, selftest,
+};
 use crate::{sift, sift_kinds, sift_lines};
 use std::path::Path;
 use std::time::Instant;
 
-/// Each program gets at least this many made lines.
+/// Each program gets at least this many lines made in rounds.
 const LEAST_LINES: usize = 200_000;
 
 /// Rounds of lines go on until every kind is met, but not for ever.
@@ -31,6 +33,8 @@ type Expected = fn(&mut Tally, &[u8], &[Option<Aim>]) -> Vec<u8>;
 struct Subject {
     name: &'static str,
     any_line: fn(&mut Random) -> Vec<u8>,
+    /// Lines that one time is enough for.
+    once: fn(&mut Random) -> Vec<Made>,
     round: fn(&mut Random) -> Vec<Made>,
     groups: fn(&[&'static str]) -> Vec<crate::tally::Group>,
     expected: Expected,
@@ -41,6 +45,7 @@ struct Subject {
 const SIFT: Subject = Subject {
     name: "sift",
     any_line: sift_lines::any_line,
+    once: |_| Vec::new(),
     round: sift_lines::round,
     groups: sift_kinds::groups,
     expected: |tally, input, aims| {
@@ -55,6 +60,7 @@ const SIFT: Subject = Subject {
 const CALLS: Subject = Subject {
     name: "calls",
     any_line: calls_lines::any_line,
+    once: altitude_lines::all,
     round: calls_lines::round,
     groups: calls_kinds::groups,
     expected: |tally, input, aims| {
@@ -114,8 +120,16 @@ impl Comparison<'_> {
         true
     }
 
-    /// Special inputs first, then rounds of lines until enough are compared and
-    /// every kind is met. A program that differs gets no second batch.
+    /// Compares the answers to made lines; false if the program does not run to its
+    /// end.
+    fn compare_lines(&mut self, made: Vec<Made>) -> bool {
+        self.lines += made.len();
+        pack(made).iter().all(|block| self.compare(block))
+    }
+
+    /// Special inputs first, then the lines that are made once, then rounds of lines
+    /// until enough are compared and every kind is met. A program that differs gets
+    /// no second batch.
     fn compare_all(&mut self, random: &mut Random, special: Vec<(&'static str, Block)>) {
         for (name, block) in special {
             self.tally.add(INPUTS, name);
@@ -123,14 +137,19 @@ impl Comparison<'_> {
                 return;
             }
         }
+        let once = (self.subject.once)(random);
+        let made_once = once.len();
+        if !self.compare_lines(once) {
+            return;
+        }
         for _ in 0..MOST_ROUNDS / ROUNDS_TOGETHER {
             let mut made = Vec::new();
             for _ in 0..ROUNDS_TOGETHER {
                 made.extend((self.subject.round)(random));
             }
-            self.lines += made.len();
-            let all_ran = pack(made).iter().all(|block| self.compare(block));
-            let met = self.lines >= LEAST_LINES && self.tally.missing().is_empty();
+            let all_ran = self.compare_lines(made);
+            let enough = self.lines - made_once >= LEAST_LINES;
+            let met = enough && self.tally.missing().is_empty();
             if met || !all_ran || self.differing > 0 {
                 return;
             }

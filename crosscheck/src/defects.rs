@@ -17,6 +17,10 @@ pub enum Sort {
     Limit,
     /// A bit.
     Bit,
+    /// An altitude in feet, decimal, with or without a sign.
+    Feet,
+    /// The step of an altitude code, decimal.
+    Step,
 }
 
 /// A column: what it holds, and its text.
@@ -68,7 +72,9 @@ fn in_column(
 }
 
 const HEX: [Sort; 2] = [Sort::Bytes, Sort::Word];
-const NUMBERS: [Sort; 4] = [Sort::Bytes, Sort::Word, Sort::Limit, Sort::Bit];
+const UNSIGNED: [Sort; 5] = [Sort::Bytes, Sort::Word, Sort::Limit, Sort::Bit, Sort::Step];
+const NUMBERS: [Sort; 6] =
+    [Sort::Bytes, Sort::Word, Sort::Limit, Sort::Bit, Sort::Step, Sort::Feet];
 
 /// Puts one of these bytes in place of a random one.
 fn replace(text: &mut [u8], random: &mut Random, by: &[u8]) {
@@ -162,7 +168,7 @@ pub const OF_A_NUMBER: [Defect; 9] = [
         })
     }),
     ("sign before a number", |columns, random| {
-        in_column(columns, random, &NUMBERS, |text, random| text.insert(0, *random.pick(b"+-")))
+        in_column(columns, random, &UNSIGNED, |text, random| text.insert(0, *random.pick(b"+-")))
     }),
     ("0x before a number", |columns, random| {
         in_column(columns, random, &HEX, |text, _| drop(text.splice(0..0, *b"0x")))

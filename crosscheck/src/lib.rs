@@ -1,6 +1,7 @@
 //! A second, independent implementation of the Mode S parity rules, written
-//! from the scope paper ("document 01") and the Lincoln Laboratory reports
-//! ATC-40, ATC-48, ATC-49 and ATC-117 alone.
+//! from the scope paper ("document 01"), the requests made after it ("document
+//! 02") and the Lincoln Laboratory reports ATC-40, ATC-48, ATC-49 and ATC-117
+//! alone.
 //!
 //! It exists to disagree: it makes very many input lines for the programs
 //! `sift` and `calls`, works out by its own means what they have to print,
@@ -12,6 +13,7 @@
 //! - `rules`: the table of refusals, R, the seals, the transponder;
 //! - `solve`: which of some remainders add up to a given one;
 //! - `sensor`: windows, density, fits, the sensor's answer;
+//! - `altitude`: altitude codes, read and written;
 //! - `text`: what both programs share of their line formats;
 //! - `sift`, `calls`: what each program prints for a whole input;
 //! - `vectors`: published values that the reference itself has to meet.
@@ -20,9 +22,10 @@
 //! - `random`: a small generator of numbers with a fixed seed;
 //! - `defects`: ways to spoil a well-formed line;
 //! - `blocks`: lines packed into inputs, and inputs of special sizes;
-//! - `sift_lines`, `calls_lines`, `sensor_lines`: the makers of lines;
-//! - `tally`, `sift_kinds`, `calls_kinds`, `sensor_kinds`: what was tried, and what
-//!   must be;
+//! - `sift_lines`, `calls_lines`, `sensor_lines`, `altitude_lines`: the makers of
+//!   lines;
+//! - `tally`, `sift_kinds`, `calls_kinds`, `sensor_kinds`, `altitude_kinds`: what was
+//!   tried, and what must be;
 //! - `run`: a program as a child process, and the first difference;
 //! - `hit_replies`: sealed replies that a burst has hit, and the built `sift` held
 //!   to what was sent;
@@ -34,6 +37,9 @@
 //!   measurement against them;
 //! - `selftest`: the checks of this program on itself.
 
+pub mod altitude;
+pub mod altitude_kinds;
+pub mod altitude_lines;
 pub mod blocks;
 pub mod calls;
 pub mod calls_kinds;

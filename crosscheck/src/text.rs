@@ -70,6 +70,14 @@ pub fn decimal_number(text: &[u8], most: usize) -> Option<u32> {
         .then(|| text.iter().fold(0, |number, digit| 10 * number + u32::from(digit - b'0')))
 }
 
+/// The same, with a `-` in front of a negative number.
+pub fn signed_number(text: &[u8], most: usize) -> Option<i32> {
+    match text.strip_prefix(b"-") {
+        Some(digits) => decimal_number(digits, most).map(|number| -(number as i32)),
+        None => decimal_number(text, most).map(|number| number as i32),
+    }
+}
+
 /// Bytes as capital hexadecimal digits, nothing for none.
 pub fn hex(bytes: &[u8]) -> String {
     bytes.iter().map(|byte| format!("{byte:02X}")).collect()
@@ -107,6 +115,12 @@ mod tests {
         assert_eq!(decimal_number(b"999999999", 9), Some(999_999_999));
         for bad in [&b""[..], b"024", b"+1", b"1A", b" 1"] {
             assert_eq!(decimal_number(bad, 2), None);
+        }
+        assert_eq!(signed_number(b"-1025", 7), Some(-1025));
+        assert_eq!(signed_number(b"-0", 7), Some(0));
+        assert_eq!(signed_number(b"-9999999", 7), Some(-9_999_999));
+        for bad in [&b""[..], b"-", b"--1", b"1-", b"-00000000", b"+1", b"- 1"] {
+            assert_eq!(signed_number(bad, 7), None);
         }
     }
 }
