@@ -20,6 +20,8 @@ const OFF: &str = "write: refused 7, off the step, by step and remainder";
 const FEET_DIGITS: &str = "write: by the digits of the altitude, with a sign or without";
 const STEP_DIGITS: &str = "write: by the digits of the step";
 
+const ANOTHER: &str = "another";
+
 /// What can stand in the field before an altitude is written.
 const OLD: [&str; 5] = ["none", "metric", "illegal", "feet by 25", "feet by 100"];
 
@@ -80,6 +82,8 @@ pub fn groups() -> Vec<Group> {
     let by_format = ["altitude", "write"]
         .into_iter()
         .flat_map(|name| (0..32).map(move |format| format!("{name} {format}")));
+    let mut steps: Vec<String> = OTHER_STEPS.iter().map(u32::to_string).collect();
+    steps.push(ANOTHER.to_string());
     let feet_digits = (1..=MOST_FEET_DIGITS).flat_map(|n| [format!("{n}"), format!("-{n}")]);
     vec![
         Group::summed(CODES, codes),
@@ -89,7 +93,7 @@ pub fn groups() -> Vec<Group> {
         Group::each(NOUGHT, STEPS),
         Group::summed(BY_FORMAT, by_format),
         Group::summed(ELSEWHERE, (0..32).filter(|format| !FORMATS.contains(format))),
-        Group::each(WRONG_STEP, OTHER_STEPS),
+        Group::each(WRONG_STEP, steps),
         Group::each(OUT_OF_RANGE, OUTSIDE.map(|(step, feet)| format!("{step}: {feet}"))),
         Group::summed(OFF, remainders()),
         Group::summed(FEET_DIGITS, feet_digits),
@@ -166,8 +170,12 @@ fn count_refused(tally: &mut Tally, message: &[u8], feet: i32, step: u32) {
         return;
     }
     let Some((first, last)) = range(step) else {
-        if STEPS.iter().all(|step| !wrong_altitude(feet, *step)) {
-            tally.add(WRONG_STEP, step);
+        if STEPS.iter().any(|step| wrong_altitude(feet, *step)) {
+            return;
+        }
+        match OTHER_STEPS.contains(&step) {
+            true => tally.add(WRONG_STEP, step),
+            false => tally.add(WRONG_STEP, ANOTHER),
         }
         return;
     };

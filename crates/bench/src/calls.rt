@@ -43,12 +43,20 @@ fn with_message(name: &[u8], m: &mut [u8], word: u32) {
         if check::same(name, b"message") {
             message(m);
         } else {
-            if check::same(name, b"transponder") {
-                transponder(m, word);
+            if check::same(name, b"altitude") {
+                print::altitude(altitude::read_altitude(m));
             } else {
-                sealing(name, m, word);
+                with_message_and_word(name, m, word);
             }
         }
+    }
+}
+
+fn with_message_and_word(name: &[u8], m: &mut [u8], word: u32) {
+    if check::same(name, b"transponder") {
+        transponder(m, word);
+    } else {
+        sealing(name, m, word);
     }
 }
 

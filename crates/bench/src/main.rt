@@ -6,12 +6,15 @@
 //     register WORD BIT, backward WORD, overlay WORD;
 //     reply MESSAGE WORD            the seal's answer, the message then, and its remainder;
 //     interrogation MESSAGE WORD    the seal's answer, the message then, and the address read from it;
-//     transponder MESSAGE WORD      the answer, and the message then.
+//     transponder MESSAGE WORD      the answer, and the message then;
+//     altitude MESSAGE              the altitude read.
 // The sources are
 //     doc01       document 01, the bench values and the examples of the refused calls;
 //     atc40       ATC-40 (source document 003): the rows of its two tables that can be read without a guess, its errata
 //                 sheet, its example and its test patterns;
 //     published   replies off the air, from the literature on Mode S;
+//     pymodes     the altitudes that pyModeS is tested with (its test_common.py), each code in a reply that is zero
+//                 elsewhere;
 //     edge        the ends of what a call takes;
 //     chosen      made up for this program;
 //     rows        refused calls that meet the rows of document 01's table whose numbers follow: the lowest is answered,

@@ -1,4 +1,5 @@
 // Columns of output, each with a space in front of it.
+use altitude::Altitude;
 use division::Word;
 use encoder::Seal;
 use transponder::Reception;
@@ -40,6 +41,26 @@ pub(crate) fn reception(a: Reception) {
         Reception::AllCall => column(b"allcall"),
         Reception::NotOurs(address) => not_ours(address),
         Reception::Refused(n) => refusal(n),
+    }
+}
+
+pub(crate) fn altitude(a: Altitude) {
+    match a {
+        Altitude::Feet(n) => feet(n),
+        Altitude::NoAltitude => column(b"none"),
+        Altitude::Metric => column(b"metric"),
+        Altitude::Illegal => column(b"illegal"),
+        Altitude::NoSuchField => column(b"nofield"),
+        Altitude::Refused(n) => refusal(n),
+    }
+}
+
+fn feet(n: i32) {
+    let mut digits = [0u8; 11];
+    let end = text::put_signed(&mut digits, 0, n);
+    column(b"feet");
+    if end <= 11 {
+        column(&digits[0..end]);
     }
 }
 

@@ -1,4 +1,6 @@
 // What a line is answered, and its columns, each with a space in front of it.
+use altitude::Altitude;
+use altitude::Writing;
 use division::Word;
 use encoder::Seal;
 use sensor::Correction;
@@ -12,6 +14,8 @@ pub(crate) enum Answer {
     Encoded(Seal),
     Received(Reception),
     Sensed(Verdict),
+    Read(Altitude),
+    Written(Writing),
 }
 
 // Appends the columns; the message is the one after the call.
@@ -22,6 +26,8 @@ pub(crate) fn put(answer: Answer, m: &[u8], out: &mut [u8], taken: usize) -> usi
         Answer::Encoded(a) => put_encoded(a, m, out, taken),
         Answer::Received(a) => put_received(a, out, taken),
         Answer::Sensed(a) => put_sensed(a, m, out, taken),
+        Answer::Read(a) => put_read(a, out, taken),
+        Answer::Written(a) => put_written(a, m, out, taken),
     }
 }
 
@@ -79,6 +85,31 @@ fn put_mark(mark: Mark, out: &mut [u8], taken: usize) -> usize {
     match mark {
         Mark::Sole => text::put_bytes(out, taken, b",sole"),
         Mark::Several => text::put_bytes(out, taken, b",several"),
+    }
+}
+
+fn put_read(answer: Altitude, out: &mut [u8], taken: usize) -> usize {
+    match answer {
+        Altitude::Feet(feet) => put_feet(feet, out, taken),
+        Altitude::NoAltitude => text::put_bytes(out, taken, b" none - -"),
+        Altitude::Metric => text::put_bytes(out, taken, b" metric - -"),
+        Altitude::Illegal => text::put_bytes(out, taken, b" illegal - -"),
+        Altitude::NoSuchField => text::put_bytes(out, taken, b" nofield - -"),
+        Altitude::Refused(n) => put_refusal(n, b"", out, taken),
+    }
+}
+
+fn put_feet(feet: i32, out: &mut [u8], taken: usize) -> usize {
+    let named = text::put_bytes(out, taken, b" feet ");
+    let next = text::put_signed(out, named, feet);
+    text::put_bytes(out, next, b" -")
+}
+
+fn put_written(answer: Writing, m: &[u8], out: &mut [u8], taken: usize) -> usize {
+    match answer {
+        Writing::Written => put_message(b" written - ", m, out, taken),
+        Writing::NoSuchField => put_message(b" nofield - ", m, out, taken),
+        Writing::Refused(n) => put_refusal(n, m, out, taken),
     }
 }
 

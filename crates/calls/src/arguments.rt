@@ -28,6 +28,31 @@ pub(crate) fn is_limit_text(s: &[u8]) -> bool {
     reading::all_decimal(s)
 }
 
+// An optional `-` and 1 to 7 decimal digits.
+pub(crate) fn is_feet_text(s: &[u8]) -> bool {
+    is_step_text(digits_of(s))
+}
+
+// 1 to 7 decimal digits.
+pub(crate) fn is_step_text(s: &[u8]) -> bool {
+    if s.len() == 0 || 7 < s.len() {
+        return false;
+    }
+    reading::all_decimal(s)
+}
+
+// What stands behind the sign, or all where there is none.
+pub(crate) fn digits_of(s: &[u8]) -> &[u8] {
+    if has_sign(s) { reading::after(s, 0) } else { s }
+}
+
+pub(crate) fn has_sign(s: &[u8]) -> bool {
+    if s.len() == 0 {
+        return false;
+    }
+    s[0] == b'-'
+}
+
 pub(crate) fn is_bit(s: &[u8]) -> bool {
     check::same(s, b"0") || check::same(s, b"1")
 }

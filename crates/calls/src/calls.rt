@@ -1,5 +1,6 @@
 // The calls by their names. A call is made on whatever the arguments hold, and answered only where they have the right
 // form.
+use crate::altitudes;
 use crate::answers::Answer;
 use crate::answers::put;
 use crate::arguments::is_bit;
@@ -34,8 +35,8 @@ fn answer_with(name: &[u8], arguments: &[u8], m: &mut [u8], out: &mut [u8], take
     put(made, m, out, taken)
 }
 
-// A call has one argument, two, or the sensor's four: no argument has a space, so a line with one space more is
-// malformed.
+// A call has one argument, two, three for the writing of an altitude, or the sensor's four: no argument has a space, so a
+// line with one space more is malformed.
 fn make(name: &[u8], arguments: &[u8], m: &mut [u8]) -> Answer {
     let middle = find(arguments, b' ');
     if middle < arguments.len() {
@@ -47,10 +48,12 @@ fn make(name: &[u8], arguments: &[u8], m: &mut [u8]) -> Answer {
 
 fn make_of_several(name: &[u8], first: &[u8], others: &[u8], m: &mut [u8]) -> Answer {
     if check::same(name, b"sensor") {
-        sense(first, others, m)
-    } else {
-        make_of_two(name, first, others, m)
+        return sense(first, others, m);
     }
+    if check::same(name, b"write") {
+        return altitudes::write(first, others, m);
+    }
+    make_of_two(name, first, others, m)
 }
 
 fn make_of_one(name: &[u8], argument: &[u8], m: &[u8]) -> Answer {
@@ -69,6 +72,9 @@ fn make_of_one(name: &[u8], argument: &[u8], m: &[u8]) -> Answer {
 }
 
 fn make_of_message_or_word(name: &[u8], argument: &[u8], m: &[u8]) -> Answer {
+    if check::same(name, b"altitude") {
+        return altitudes::read(argument, m);
+    }
     if check::same(name, b"remainder") {
         return if_bytes(argument, division::message_remainder(m));
     }

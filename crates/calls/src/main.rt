@@ -2,13 +2,13 @@
 // code. Input lines are a name and its arguments, parted by one space:
 //     register WORD BIT, bits FIELD, bytes FIELD, rows FIELD, remainder MESSAGE, address MESSAGE, overlay WORD,
 //     backward WORD, reply MESSAGE WORD, interrogation MESSAGE WORD, transponder MESSAGE WORD,
-//     sensor MESSAGE CONFIDENCE WORD LIMIT
+//     sensor MESSAGE CONFIDENCE WORD LIMIT, altitude MESSAGE, write MESSAGE FEET STEP
 // with fields, messages and confidence bits as an even number of capital hexadecimal digits, at most 64, `-` for no
-// bytes; words as 1 to 8 such digits; a bit as 0 or 1; a limit as 1 to 9 decimal digits. Output lines have four columns:
-// the line number from 1; the answer; its value, which is the number of the refusal, for `dense` the window, and for
-// `corrected` the window, the bits changed and the mark, parted by commas; and for a seal and the sensor the message
-// after the call. `-` fills what an answer lacks. An input above 65,536 bytes is too long, and that is all that is said
-// of it.
+// bytes; words as 1 to 8 such digits; a bit as 0 or 1; a limit as 1 to 9 decimal digits; feet as an optional `-` and 1 to 7
+// decimal digits; a step as 1 to 7 decimal digits. Output lines have four columns: the line number from 1; the answer; its
+// value, which is the number of the refusal, for `dense` the window, for `corrected` the window, the bits changed and the
+// mark, parted by commas, and for `feet` the altitude; and for a seal, the sensor and `write` the message after the call.
+// `-` fills what an answer lacks. An input above 65,536 bytes is too long, and that is all that is said of it.
 //
 // A program here has no exit status: what went wrong is said on standard error, and nothing else is. bin/calls ends with 1
 // where something was said.
@@ -16,6 +16,7 @@ ghost use Prim.Native.Nat.{_+_, _≤_};
 ghost use mathlib.Core.Path.{_≡_};
 ghost use lib.ListN.{length};
 
+mod altitudes;
 mod answers;
 mod arguments;
 mod calls;
