@@ -97,7 +97,7 @@ fn made_writing(random: &mut Random, message: &[u8], feet: i32, step: u32) -> Ma
 }
 
 /// A code of each kind: none, metric, illegal, and legal ones by both steps.
-fn old_code(random: &mut Random) -> Bits {
+fn any_code(random: &mut Random) -> Bits {
     let wanted = random.below(5);
     loop {
         let code = bits_of_word(random.below(1 << 13) as u32, 13);
@@ -122,7 +122,7 @@ fn encode_if(feet: i32, step: u32) -> Bits {
 
 /// An altitude written over an old code, and the message that this gives, read.
 fn written_and_read(random: &mut Random, format: u32, feet: i32, step: u32) -> [Made; 2] {
-    let old = old_code(random);
+    let old = any_code(random);
     let message = with_code(&in_format(random, format), &old);
     let after = write(&message, feet, step).expect("a format with an altitude code");
     assert_eq!(read(&after), Some(Altitude::Feet(feet)));
@@ -253,6 +253,18 @@ fn all_lengths(random: &mut Random) -> Vec<Made> {
     lines
 }
 
+/// Codes of all kinds, read.
+fn all_answers(random: &mut Random) -> Vec<Made> {
+    let mut lines = Vec::new();
+    for format in FORMATS {
+        for _ in 0..8 {
+            let code = any_code(random);
+            lines.push(made_reading(&with_code(&in_format(random, format), &code)));
+        }
+    }
+    lines
+}
+
 /// Nought, with and without a sign, by both steps.
 fn nought(random: &mut Random) -> Vec<Made> {
     let mut lines = Vec::new();
@@ -366,6 +378,7 @@ pub fn writing_defects() -> Vec<Defect> {
 pub fn round(random: &mut Random) -> Vec<Made> {
     let mut lines = spoiled(random, READING_MALFORMED, reading_defects(), well_formed_reading);
     lines.extend(spoiled(random, WRITING_MALFORMED, writing_defects(), well_formed_writing));
+    lines.extend(all_answers(random));
     lines.extend(all_formats(random));
     lines.extend(all_lengths(random));
     lines.extend(refused(random));
