@@ -12,6 +12,8 @@ use mir.Val.{Fits, SFits}
 use borrow.Author.Tests.{ltb-true, le-ltb}
 use Rattle.text.specs.Digits.{decimalText, signedText}
 
+-- ---- the sign
+
 pub data Negative : ℤ → Type 0 where
   below : (n : ℕ) → n < 2147483648 → Negative (negsuc n)
 
@@ -23,7 +25,7 @@ pub not-negative : (z : ℤ) → SFits w32 z → ltZ z (pos 0) ≡ false → T (
 not-negative (pos n) f t = let h = f .sfits in (tt, record { fits = omega arith })
 not-negative (negsuc n) f t = absurd (let e : _≡_ {A = ℕ} 0 1 = cc in omega arith)
 
--- ---- -1 - z
+-- ---- -1 - z, which fits where -z may not
 
 from-above : (n : ℕ) → negsuc 0 -ℤ negsuc n ≡ pos n
 from-above n = rw (le-ltb (suc n) 1 (omega arith)) (ap pos (omega arith))

@@ -28,7 +28,7 @@ decimalWithin (suc bound) n = cond (ltb n 10) (digitOf n ∷ []) (decimalWithin 
 unfoldable pub decimalText : ℕ → List ℕ
 decimalText n = decimalWithin (suc n) n
 
--- a signed number: `-` in front of a negative one
+-- a signed number: `-`, the byte 45, in front of a negative one
 unfoldable pub signedText : ℤ → List ℕ
 signedText (pos n) = decimalText n
 signedText (negsuc n) = 45 ∷ decimalText (suc n)
