@@ -8,3 +8,4 @@ pub mod Correcting
 pub mod Altitudes
 pub mod Bench
 pub mod Instances
+pub mod AltitudeInstances
