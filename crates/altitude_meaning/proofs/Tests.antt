@@ -67,6 +67,10 @@ isBy100 t =
     let k = codeBy100 t in
     eqb (M k) 0 && (eqb (Q k) 0 && (eqb (grayBits k) (gray 8 (t / 5)) && (eqb (cBits k) (cPattern (t / 5) (t % 5)) && ltb k 8192)))
 
+-- 1280 altitudes are five to each of 256 numbers
+fives : (t : ℕ) → t < 1280 → t / 5 < 256
+fives t h = omega arith
+
 pub pattern-100 : (t : ℕ) → t < 1280 → Hundred (codeBy100 t) (t / 5) (t % 5) × (codeBy100 t < 2 ^ 13)
 unfolding every isBy100 gray placed codeBy100 binary digit grayBits cBits cPattern inOrder
 pattern-100 t h =
@@ -75,7 +79,7 @@ pattern-100 t h =
     let c = both _ _ (b .1) in
     let d = both _ _ (c .1) in (
       record {
-        eight = omega arith;
+        eight = fives t h;
         five = mod-lt t (lit< tt);
         no-metric = eqb-true _ _ (a .0);
         no-step-25 = eqb-true _ _ (b .0);
