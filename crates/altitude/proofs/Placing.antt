@@ -1,6 +1,6 @@
 -- The code at bits 20 to 32. The idea: a message of at least four bytes is the number H of its first four, shifted past the
 -- rest; its code is the low 13 bits of H, and another code there is another third and fourth byte.
-use mathlib.Core.Path.{_≡_, refl, sym, ap, ap₂, _∙_, subst}
+use mathlib.Core.Path.{_≡_, sym, ap, ap₂, _∙_, subst}
 use mathlib.Core.List.{List, [], _∷_}
 use mathlib.Core.Logic.{_⊎_, inl, inr}
 use Prim.Native.Nat.{ℕ, zero, suc, _+_, _*_, _-_, _/_, _%_, _^_, _<_, _≤_}

@@ -4,10 +4,9 @@
 // altitude_code and their contracts.
 ghost use Prim.Native.Nat.{_<_, _≤_, _^_};
 ghost use mathlib.Core.Path.{_≡_};
-ghost use mathlib.Core.Bool.{true, cond};
+ghost use mathlib.Core.Bool.{cond};
 ghost use lib.ListN.{length};
 ghost use Rattle.outcome.specs.Outcomes.{admission};
-ghost use Rattle.message.specs.Message.{isMessageLength, firstBitAgrees};
 ghost use Rattle.altitude.specs.Fields.{hasAltitude, altitudeCode, withCode};
 ghost use Rattle.altitude.specs.Answers.{saidAltitude, saidWriting, known as knownBy, checked, readingOf, readingOutcome, writingOutcome, writingAfter};
 use altitude_code::Decoded;

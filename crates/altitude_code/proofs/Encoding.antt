@@ -3,17 +3,16 @@
 use mathlib.Core.Path.{_≡_, refl, sym, ap, ap₂, _∙_, subst}
 use mathlib.Core.Bool.{Bool, true, false, cond, _&&_, _||_, and-eq-true-iff}
 use mathlib.Core.Logic.{_⊎_, inl, inr}
-use Prim.Native.Nat.{ℕ, zero, suc, _+_, _*_, _-_, _/_, _%_, _^_, _<_, _≤_}
+use Prim.Native.Nat.{ℕ, suc, _+_, _*_, _-_, _/_, _%_, _^_, _<_, _≤_}
 use native.Mathlib.Nat.{add-zero, mod-mod, add-mod, mul-le-mul-left, add-mul-mod-self-left, mul-add-mod-self-left, mul-mod-right, mul-div-right, div-add-mod, div-le-of-le-mul}
 use native.Mathlib.Omega.{arith}
-use lib.Dec.{eqb, leb, lit<, lit≤}
+use lib.Dec.{eqb, lit<, lit≤}
 use lib.IntN.{ℤ, pos, negsuc, natAbs, subℕ, _+ℤ_, _-ℤ_}
 use lib.Signed.{leZ}
 use borrow.Author.Tests.{eqb-true, leb-true, eq-eqb, ne-eqb, le-leb}
 use Rattle.outcome.proofs.Laws.{never, or-cases}
 use Rattle.altitude_code.specs.Altitudes.{feetBy25, feetBy100, codeBy25, codeBy100, lowest, highest, inCode, codeOf, encodedOf}
 use Rattle.altitude_code.specs.Counting.{aboveLowest, isAt, encodedFrom}
-use Rattle.altitude_code.specs.declared.Encoded.{Encoded}
 use Rattle.altitude_code.specs.declared.Encoded.the-variants.{Code, OutOfCode}
 use Rattle.altitude_code.proofs.Digits.{code-25-lt, placed-lt}
 use Rattle.altitude_code.proofs.Differences.{sub-up, sub-down, sub-cases, sub-both, above-feet, feet-above, sum-of-differences}

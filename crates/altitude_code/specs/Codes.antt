@@ -1,5 +1,5 @@
 -- The bits of an altitude code (Annex 10 Volume IV: AC; document 02, Point 1), and the C1 C2 C4 of the 100-foot code.
-use Prim.Native.Nat.{ℕ, zero, suc, _+_, _*_, _-_, _/_, _%_, _^_}
+use Prim.Native.Nat.{ℕ, _+_, _*_, _-_, _/_, _%_, _^_}
 use mathlib.Core.Bool.{cond}
 use mathlib.Core.List.{List, [], _∷_}
 use lib.Dec.{eqb}

@@ -1,5 +1,5 @@
 // The 100-foot code, read: the number of its Gray code, and the place of its C1 C2 C4 in the list of five.
-ghost use Prim.Native.Nat.{ℕ, _+_, _*_, _<_, _≤_, _%_, _/_};
+ghost use Prim.Native.Nat.{_<_};
 ghost use mathlib.Core.Path.{_≡_};
 ghost use Rattle.altitude_code.specs.Gray.{grayNumber};
 ghost use Rattle.altitude_code.specs.Codes.{grayBits, cBits, cPatterns, inOrder};

@@ -3,10 +3,8 @@
 //
 // Inside, altitudes are counted in feet above −1200, the lowest of all, and so without a sign; `feet` and `above_lowest` are
 // the two ways between the two.
-ghost use Prim.Native.Nat.{_+_, _*_, _<_, _≤_};
+ghost use Prim.Native.Nat.{_<_, _≤_};
 ghost use mathlib.Core.Path.{_≡_};
-ghost use mathlib.Core.Bool.{true};
-ghost use lib.Dec.{ltb};
 ghost use lib.IntN.{pos, _-ℤ_};
 ghost use Rattle.altitude_code.specs.Altitudes.{decodedOf, encodedOf, codeBy25, codeBy100};
 ghost use Rattle.altitude_code.specs.Counting.{aboveLowest, encodedFrom, isAt};

@@ -1,23 +1,21 @@
 -- The definitions that compute say what Point 1 says, case by case, and nothing else: of a code, and of an altitude's code.
 use mathlib.Core.Path.{_≡_, refl, sym, ap, ap₂, _∙_, subst}
-use mathlib.Core.Bool.{Bool, true, false, cond}
+use mathlib.Core.Bool.{Bool, true, false}
 use mathlib.Core.Logic.{_⊎_, inl, inr}
-use Prim.Native.Nat.{ℕ, zero, suc, _+_, _*_, _/_, _%_, _^_, _<_, _≤_}
+use Prim.Native.Nat.{ℕ, zero, suc, _+_, _*_, _/_, _%_, _^_, _<_}
 use native.Mathlib.Nat.{mod-eq-of-lt, zero-div, lt-irrefl, lt-of-le-of-lt}
 use native.Mathlib.Omega.{arith}
 use lib.Dec.{eqb, ltb}
 use lib.IntN.{ℤ, subℕ}
 use borrow.Author.Tests.{eqb-true, eqb-false, ltb-true, ltb-false}
-use Rattle.outcome.proofs.Laws.{never}
-use Rattle.altitude_code.specs.Gray.{gray, grayNumber}
-use Rattle.altitude_code.specs.Codes.{digit, binary, M, Q, elevenBits, grayBits, cBits, cPatterns, inOrder, cPattern}
-use Rattle.altitude_code.specs.Altitudes.{feetBy25, feetBy100, placeIn, codeBy25, codeBy100, decodedBy100, decodedOf, inCode, codeOf, encodedOf}
+use Rattle.altitude_code.specs.Gray.{grayNumber}
+use Rattle.altitude_code.specs.Codes.{digit, binary, M, Q, elevenBits, grayBits, cBits, cPatterns, inOrder}
+use Rattle.altitude_code.specs.Altitudes.{feetBy25, feetBy100, placeIn, codeBy25, codeBy100, decodedBy100, decodedOf, codeOf, encodedOf}
 use Rattle.altitude_meaning.specs.Meaning.{Hundred, By25, By100, Means, Encodes}
 use Rattle.altitude_code.specs.declared.Decoded.{Decoded}
 use Rattle.altitude_code.specs.declared.Decoded.the-variants.{Feet, NoAltitude, Metric, Illegal}
-use Rattle.altitude_code.specs.declared.Encoded.{Encoded}
-use Rattle.altitude_code.specs.declared.Encoded.the-variants.{Code, OutOfCode}
-use Rattle.altitude_meaning.proofs.Tests.{number-gray, gray-number, number-lt, Pattern25, pattern-25, only-25, pattern-100, only-100}
+use Rattle.altitude_code.specs.declared.Encoded.the-variants.{Code}
+use Rattle.altitude_meaning.proofs.Tests.{number-gray, gray-number, number-lt, pattern-25, only-25, pattern-100, only-100}
 use Rattle.altitude_code.proofs.Laws.{bit-lt, eleven-lt, gray-lt, c-lt, in-order-lt, in-order-twice, pattern-place, place-pattern, InCode, was-in-code, in-25, of-25, feet-100, in-100, of-100, encoded-in, was-encoded, illegal, legal, decoded-none, decoded-metric, decoded-25, decoded-100}
 
 -- ---- the rule of the 100-foot code

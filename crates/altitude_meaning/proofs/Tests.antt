@@ -1,7 +1,7 @@
 -- The patterns of the two codes, by computed tests over all of them: the pattern of each altitude has the bits that the rule
 -- asks for, and each pattern is the one of its own altitude. And the Gray code in eight bits, both ways.
 use mathlib.Core.Path.{_≡_, refl, ap₂}
-use mathlib.Core.Bool.{Bool, true, not, _&&_, _||_}
+use mathlib.Core.Bool.{Bool, not, _&&_, _||_}
 use Prim.Native.Nat.{ℕ, _+_, _*_, _/_, _%_, _^_, _<_}
 use native.Mathlib.Nat.{mod-lt}
 use native.Mathlib.Omega.{arith}

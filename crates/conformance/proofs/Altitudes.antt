@@ -4,20 +4,18 @@ use mathlib.Core.Path.{_≡_, refl, sym, ap, _∙_, subst}
 use mathlib.Core.Bool.{Bool, true, false, cond}
 use mathlib.Core.Logic.{_⊎_, inl, inr}
 use mathlib.Core.List.{List}
-use Prim.Native.Nat.{ℕ, _≤_, _<_, _^_, _%_}
-use native.Mathlib.Nat.{mod-lt}
+use Prim.Native.Nat.{ℕ, _≤_}
 use native.Mathlib.Omega.{arith}
-use lib.Dec.{eqb, lit<}
 use lib.IntN.{ℤ}
 use lib.ListN.{length, getD}
-use borrow.Author.Tests.{eq-eqb, ne-eqb, eqb-true, eqb-false}
+use borrow.Author.Tests.{eq-eqb, ne-eqb}
 use Rattle.outcome.specs.Outcomes.{Unrefused}
 use Rattle.outcome.proofs.Laws.{never, refusal-is-no-answer}
 use Rattle.message.specs.Message.{Bytes, isMessageLength, firstBitAgrees, parityField}
 use Rattle.message.specs.Bits.{bitAt}
 use Rattle.message.proofs.Laws.{message-length, same-format, same-first-bit}
-use Rattle.altitude_code.specs.Codes.{M, Q}
-use Rattle.altitude_code.specs.Altitudes.{decodedOf, inCode, codeOf, encodedOf}
+use Rattle.altitude_code.specs.Codes.{Q}
+use Rattle.altitude_code.specs.Altitudes.{decodedOf, codeOf, encodedOf}
 use Rattle.altitude_code.specs.declared.Decoded.{Decoded}
 use Rattle.altitude_code.specs.declared.Decoded.the-variants as D
 use Rattle.altitude_code.specs.declared.Encoded.the-variants.{Code}

@@ -2,7 +2,7 @@
 --
 -- The test of the numbers goes by their binary digits, so that it is only w calls deep. A table is compared with the list of
 -- f 0, f 1, …, which the checker computes; its literal stands in the source alone.
-use mathlib.Core.Path.{_≡_, refl, sym, ap, _∙_, subst}
+use mathlib.Core.Path.{_≡_, refl, sym, ap, _∙_}
 use mathlib.Core.Bool.{Bool, true, false, not, _&&_, _||_, and-eq-true-iff}
 use mathlib.Core.Logic.{_⊎_, inl, inr}
 use Prim.Native.Nat.{ℕ, zero, suc, _+_, _*_, _/_, _%_, _^_, _<_}
