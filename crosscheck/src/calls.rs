@@ -44,6 +44,7 @@ pub enum Reply {
     Sealed(Vec<u8>),
     Own,
     AllCall,
+    Broadcast,
     NotOurs(u32),
     /// The sensor's answer, which is no refusal, and the message after the call.
     Sensed(Answer, Vec<u8>),
@@ -150,6 +151,7 @@ pub fn answer(call: &Call) -> Reply {
         Call::Transponder(message, own) => match transponder(message, *own) {
             Heard::Own => Reply::Own,
             Heard::AllCall => Reply::AllCall,
+            Heard::Broadcast => Reply::Broadcast,
             Heard::NotOurs(address) => Reply::NotOurs(address),
             Heard::Refused(row) => Reply::Refused(row),
         },
@@ -219,6 +221,7 @@ pub fn print(number: usize, judged: &Judged) -> String {
         Reply::Sealed(message) => format!("sealed - {}", hex_or_dash(message)),
         Reply::Own => "own - -".to_string(),
         Reply::AllCall => "allcall - -".to_string(),
+        Reply::Broadcast => "broadcast - -".to_string(),
         Reply::NotOurs(address) => format!("notours {address:06X} -"),
         Reply::Sensed(answer, message) => {
             format!("{} {} {}", answer.word(), sensed_value(*answer), hex_or_dash(message))

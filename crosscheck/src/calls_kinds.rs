@@ -6,7 +6,7 @@ use crate::altitude_kinds;
 use crate::blocks::{Aim, INPUTS, MALFORMED};
 use crate::calls::{rows, Call, Judged, Reply};
 use crate::calls_lines::*;
-use crate::rules::{format_number, HIGHEST};
+use crate::rules::{address_read, format_number, HIGHEST};
 use crate::sensor::{Answer, Mark};
 use crate::sensor_kinds;
 use crate::tally::{Group, Tally};
@@ -20,9 +20,9 @@ const SINGLE_WORD: &str = "words with a single one, by call and power";
 const LAST_BYTE: &str = "fields, by call and the value of the last byte";
 const OTHERS: &str = "other cases";
 
-const ALL_OTHER_FORMAT: &str = "address FFFFFF in a format other than 11: not ours";
-const FORMAT_OTHER_ADDRESS: &str = "format 11 with an address other than FFFFFF: not ours";
-const OWN_IN_11: &str = "format 11 with the own address: own";
+const FOR_ALL: &str = "address FFFFFF, by format number and answer";
+const FORMAT_OTHER_ADDRESS: &str =
+    "format 11, 20 or 21 with an address other than FFFFFF, by answer";
 const SEAL_LOWEST: &str = "sealed for 000000";
 const SEAL_HIGHEST: &str = "sealed for FFFFFF";
 const OWN_LOWEST: &str = "transponder refused 6 for 000000";
@@ -43,7 +43,7 @@ fn answers() -> Vec<String> {
         kinds.extend([7, 14].map(|bytes| format!("{name} sealed, {bytes} bytes")));
         kinds.extend([1, 3, 5].map(|row| format!("{name} refused {row}")));
     }
-    for answer in ["own, 7 bytes", "own, 14 bytes", "allcall, 7 bytes"] {
+    for answer in ["own, 7 bytes", "own, 14 bytes", "allcall, 7 bytes", "broadcast, 14 bytes"] {
         kinds.push(format!("transponder {answer}"));
     }
     kinds.extend([7, 14].map(|bytes| format!("transponder notours, {bytes} bytes")));
@@ -88,25 +88,32 @@ fn hit_windows() -> Vec<String> {
     [56, 112].into_iter().flat_map(windows).collect()
 }
 
+/// What FFFFFF is answered in each format.
+fn for_all() -> Vec<String> {
+    let answer = |format| match format {
+        11 => "allcall",
+        20 | 21 => "broadcast",
+        _ => "notours",
+    };
+    (0..32).map(|format| format!("{format} {}", answer(format))).collect()
+}
+
 /// All groups, with the kinds that a run has to meet.
 pub fn groups(special: &[&'static str]) -> Vec<Group> {
     let of_their_own = ["sensor", "altitude", "write"];
     let with_bytes = [&OF_A_FIELD[..], &OF_A_MESSAGE, &OF_BOTH, &of_their_own].concat();
     let with_words = [&OF_A_WORD[..], &OF_BOTH, &["sensor"]].concat();
-    let others = [
-        ALL_OTHER_FORMAT,
-        FORMAT_OTHER_ADDRESS,
-        OWN_IN_11,
-        SEAL_LOWEST,
-        SEAL_HIGHEST,
-        OWN_LOWEST,
-        OWN_HIGHEST,
-    ];
+    let other_address =
+        [11, 20, 21].map(|format| [format!("{format} own"), format!("{format} notours")]);
+    let others = [SEAL_LOWEST, SEAL_HIGHEST, OWN_LOWEST, OWN_HIGHEST];
     let mut groups = vec![
         Group::each(ANSWERS, answers()),
         Group::each(TOGETHER, together()),
         Group::summed(HIT, hit_windows()),
+        Group::each(HIT_FOR_ALL, [11, 20, 21]),
         Group::each(GENERATOR_ADDED, [56, 112]),
+        Group::summed(FOR_ALL, for_all()),
+        Group::each(FORMAT_OTHER_ADDRESS, other_address.concat()),
         Group::summed(STRINGS, pairs(&with_bytes, 0..=32)),
         Group::summed(WORDS, pairs(&with_words, 1..=8)),
         Group::summed(SINGLE_BIT, single_bits()),
@@ -148,6 +155,7 @@ fn answer_word(judged: &Judged) -> &'static str {
         Some((_, Reply::Sealed(_))) => "sealed",
         Some((_, Reply::Own)) => "own",
         Some((_, Reply::AllCall)) => "allcall",
+        Some((_, Reply::Broadcast)) => "broadcast",
         Some((_, Reply::NotOurs(_))) => "notours",
         Some((_, Reply::Sensed(Answer::Corrected { mark, .. }, _))) => match mark {
             Mark::Sole => "corrected sole",
@@ -198,6 +206,9 @@ pub fn count(tally: &mut Tally, line: &[u8], judged: &Judged, aim: Option<&Aim>)
         sensor_kinds::count(tally, line, request, reply);
     }
     altitude_kinds::count(tally, line, call, reply);
+    if let Call::Transponder(message, _) = call {
+        count_heard(tally, message, reply, answer);
+    }
     count_others(tally, call, reply);
 }
 
@@ -227,18 +238,20 @@ fn count_word(tally: &mut Tally, name: &str, line: &[u8], word: u32) {
     }
 }
 
+fn count_heard(tally: &mut Tally, message: &[u8], reply: &Reply, answer: &str) {
+    if matches!(reply, Reply::Refused(_)) {
+        return;
+    }
+    let format = format_number(message);
+    if address_read(message) == HIGHEST {
+        tally.add(FOR_ALL, format!("{format} {answer}"));
+    } else if [11, 20, 21].contains(&format) {
+        tally.add(FORMAT_OTHER_ADDRESS, format!("{format} {answer}"));
+    }
+}
+
 fn count_others(tally: &mut Tally, call: &Call, reply: &Reply) {
     match (call, reply) {
-        (Call::Transponder(message, _), Reply::NotOurs(address)) => {
-            if *address == HIGHEST {
-                tally.add(OTHERS, ALL_OTHER_FORMAT);
-            } else if format_number(message) == 11 {
-                tally.add(OTHERS, FORMAT_OTHER_ADDRESS);
-            }
-        }
-        (Call::Transponder(message, _), Reply::Own) if format_number(message) == 11 => {
-            tally.add(OTHERS, OWN_IN_11);
-        }
         (Call::Transponder(_, 0), Reply::Refused(6)) => tally.add(OTHERS, OWN_LOWEST),
         (Call::Transponder(..), Reply::Refused(6)) => tally.add(OTHERS, OWN_HIGHEST),
         (Call::Interrogation(_, 0), Reply::Sealed(_)) => tally.add(OTHERS, SEAL_LOWEST),

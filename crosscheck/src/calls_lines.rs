@@ -20,6 +20,11 @@ pub const HIT: &str = "interrogation hit by a burst, by length and window";
 /// burst of 24, and not noticed.
 pub const GENERATOR_ADDED: &str = "interrogation with the generator added, taken as own";
 
+/// The group of interrogations sealed for an address that a burst has made
+/// interrogations for all: own is all that demand 3 excludes.
+pub const HIT_FOR_ALL: &str =
+    "interrogation hit by a burst, taken as one for all, by format number";
+
 /// The calls that take a field, a message, or a message and a word.
 pub const OF_A_FIELD: [&str; 3] = ["bits", "bytes", "rows"];
 pub const OF_A_MESSAGE: [&str; 2] = ["remainder", "address"];
@@ -170,6 +175,13 @@ fn interrogation(random: &mut Random, length: usize, address: u32) -> Vec<u8> {
     interrogation_seal(&bytes, address).expect("the first bit is right")
 }
 
+/// The same in a format, of the length that its first bit asks for.
+fn in_format(random: &mut Random, format: u8, address: u32) -> Vec<u8> {
+    let mut bytes = random.bytes(if format < 16 { 7 } else { 14 });
+    bytes[0] = format << 3 | bytes[0] & 7;
+    interrogation_seal(&bytes, address).expect("the first bit is right")
+}
+
 /// An address that a transponder may have.
 fn assigned(random: &mut Random) -> u32 {
     loop {
@@ -194,11 +206,9 @@ fn heard(random: &mut Random) -> Vec<Made> {
         let reply = reply_seal(&reply, own).expect("the first bit is right");
         lines.push(made(random, "transponder", &reply, own));
     }
-    for format in [11, 11, 10, 12, 0] {
-        let mut bytes = random.bytes(7);
-        bytes[0] = format << 3 | bytes[0] & 7;
+    for format in 0..32 {
         for address in [HIGHEST, own] {
-            let sealed = interrogation_seal(&bytes, address).expect("formats below 16");
+            let sealed = in_format(random, format, address);
             let owner = *random.pick(&[own, own, own, other, HIGHEST, 0, 0x100_0000]);
             lines.push(made(random, "transponder", &sealed, owner));
         }
@@ -217,6 +227,22 @@ fn hit(random: &mut Random, length: usize, window: usize) -> Made {
     assert_ne!(transponder(&bytes, own), Heard::Own, "no such burst is taken as own");
     let text = join(&call(random, "transponder", &bytes, own));
     Made::aimed(text, HIT, format!("{}: {window}", 8 * length), None)
+}
+
+/// The same in a format, by the one burst of a window behind the format after
+/// which FFFFFF is read.
+fn hit_for_all(random: &mut Random, format: u8) -> Made {
+    let own = assigned(random);
+    let sent = bits_of_bytes(&in_format(random, format, own));
+    let last = sent.len() - DEGREE;
+    let window = random.from_to(5, last);
+    let pattern = (window..last).fold(overlay(own ^ HIGHEST), |pattern, _| step_back(pattern));
+    let ones = bits_of_word(pattern, DEGREE);
+    let burst: Vec<usize> = (0..DEGREE).filter(|k| ones[*k]).map(|k| window + 1 + k).collect();
+    let bytes = bytes_of_bits(&invert(&sent, &burst));
+    let text = join(&call(random, "transponder", &bytes, own));
+    let answer = if format == 11 { "allcall" } else { "broadcast" };
+    Made::aimed(text, HIT_FOR_ALL, format, Some(answer))
 }
 
 /// The same with G added, 25 bits: the one longer burst that is not noticed.
@@ -332,6 +358,7 @@ pub fn round(random: &mut Random) -> Vec<Made> {
         lines.extend(windows(8 * length).map(|window| hit(random, length, window)));
         lines.push(generator_added(random, length));
     }
+    lines.extend([11, 20, 21].map(|format| hit_for_all(random, format)));
     for _ in 0..6 {
         lines.extend(fields(random));
         lines.extend(messages(random));

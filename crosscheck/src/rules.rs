@@ -1,16 +1,20 @@
 //! Document 01 but for the sensor: the table of refused calls, R, the two
-//! seals, the address read from a message, and the transponder's answer.
+//! seals, the address read from a message, and the transponder's answer, with
+//! the broadcasts of document 02.
 //!
 //! For each call there is a list of all rows of the table that apply; the
 //! lowest is the refusal.
 
 use crate::poly::*;
 
-/// The highest 24-bit word, and the address of an all-call.
+/// The highest 24-bit word, and the address of an all-call and of a broadcast.
 pub const HIGHEST: u32 = 0xFF_FFFF;
 
 /// The format number of an all-call interrogation.
 pub const ALL_CALL_FORMAT: u32 = 11;
+
+/// The format numbers of a broadcast interrogation (Annex 10 Volume IV).
+pub const BROADCAST_FORMATS: [u32; 2] = [20, 21];
 
 /// Row 1 for a message.
 pub fn wrong_message_length(message: &[u8]) -> bool {
@@ -147,6 +151,7 @@ pub fn format_number(message: &[u8]) -> u32 {
 pub enum Heard {
     Own,
     AllCall,
+    Broadcast,
     NotOurs(u32),
     Refused(u8),
 }
@@ -156,13 +161,11 @@ pub fn transponder(message: &[u8], own: u32) -> Heard {
     if let Some(row) = transponder_rows(message, own).first() {
         return Heard::Refused(*row);
     }
-    let address = address_read(message);
-    if address == own {
-        Heard::Own
-    } else if address == HIGHEST && format_number(message) == ALL_CALL_FORMAT {
-        Heard::AllCall
-    } else {
-        Heard::NotOurs(address)
+    match (address_read(message), format_number(message)) {
+        (address, _) if address == own => Heard::Own,
+        (HIGHEST, ALL_CALL_FORMAT) => Heard::AllCall,
+        (HIGHEST, format) if BROADCAST_FORMATS.contains(&format) => Heard::Broadcast,
+        (address, _) => Heard::NotOurs(address),
     }
 }
 
@@ -198,6 +201,21 @@ mod tests {
             let word = random.word();
             assert_eq!(register_step(step_back(word), false), word);
             assert_eq!(step_back(register_step(word, false)), word);
+        }
+    }
+
+    #[test]
+    fn for_all_by_format() {
+        for format in 0..32 {
+            let mut sent = vec![0; if format < 16 { 7 } else { 14 }];
+            sent[0] = format << 3;
+            let sent = interrogation_seal(&sent, HIGHEST).expect("not refused");
+            let expected = match format {
+                11 => Heard::AllCall,
+                20 | 21 => Heard::Broadcast,
+                _ => Heard::NotOurs(HIGHEST),
+            };
+            assert_eq!(transponder(&sent, 0x12_3456), expected);
         }
     }
 

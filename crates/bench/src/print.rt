@@ -39,6 +39,7 @@ pub(crate) fn reception(a: Reception) {
     match a {
         Reception::Own => column(b"own"),
         Reception::AllCall => column(b"allcall"),
+        Reception::Broadcast => column(b"broadcast"),
         Reception::NotOurs(address) => not_ours(address),
         Reception::Refused(n) => refusal(n),
     }

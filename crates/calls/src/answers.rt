@@ -49,6 +49,7 @@ fn put_received(answer: Reception, out: &mut [u8], taken: usize) -> usize {
     match answer {
         Reception::Own => text::put_bytes(out, taken, b" own - -"),
         Reception::AllCall => text::put_bytes(out, taken, b" allcall - -"),
+        Reception::Broadcast => text::put_bytes(out, taken, b" broadcast - -"),
         Reception::NotOurs(address) => put_word(b" notours ", address, out, taken),
         Reception::Refused(n) => put_refusal(n, b"", out, taken),
     }

@@ -20,10 +20,10 @@ use Rattle.encoder.specs.Seals.{interrogationAfter, withParity}
 use Rattle.encoder.proofs.Laws.{was-accepted, interrogation-after, interrogation-is, sealed-length, sealed-bytes, reply-lt}
 use Rattle.transponder.specs.Receptions.{everyone, receptionOf, receptionOutcome, said}
 use Rattle.transponder.specs.declared.Reception.{Reception}
-use Rattle.transponder.specs.declared.Reception.the-variants.{Own, AllCall, NotOurs, Refused}
+use Rattle.transponder.specs.declared.Reception.the-variants.{Own, AllCall, Broadcast, NotOurs, Refused}
 use Rattle.transponder.proofs.Laws.{Case, case, case-only, Admitted, admitted, said-injective}
 use Rattle.conformance.specs.Bursts.{Burst}
-use Rattle.conformance.specs.Accepting.{Due, OursIsDue, OnlyOneIsDue, SaysOwn, SaysAllCall, SaysNotOurs, BurstNeverOwn}
+use Rattle.conformance.specs.Accepting.{Due, OursIsDue, OnlyOneIsDue, ExactlyOneIsDue, SaysOwn, SaysAllCall, SaysBroadcast, SaysNotOurs, BurstNeverOwn}
 use Rattle.conformance.specs.Sealing.{SealedCallIsRead}
 use Rattle.conformance.proofs.Sealing.{sealed-call-is-read}
 
@@ -37,6 +37,7 @@ module _ (own : ℕ) (m : List ℕ) (ok : Admitted own m) where
   unfolding Due a
   due-of Own e = address-law (number m) own (ok .own-lt) .0 e
   due-of AllCall h = (address-law (number m) everyone (lit< tt) .0 (h .1), h .2)
+  due-of Broadcast h = (address-law (number m) everyone (lit< tt) .0 (h .1), h .2)
   due-of (NotOurs b) h =
       let small : b < 2 ^ 24 = subst (λ (y : ℕ). y < 2 ^ 24) (sym (h .0)) (addressRead-lt (number m)) in (
         small,
@@ -50,6 +51,9 @@ module _ (own : ℕ) (m : List ℕ) (ok : Admitted own m) where
   unfolding Due a
   of-due Own e = address-law (number m) own (ok .own-lt) .1 e
   of-due AllCall h =
+      let all : addressRead (number m) ≡ everyone = address-law (number m) everyone (lit< tt) .1 (h .0) in
+      ((λ q. ok .not-everyone (sym q ∙ all)), all, h .1)
+  of-due Broadcast h =
       let all : addressRead (number m) ≡ everyone = address-law (number m) everyone (lit< tt) .1 (h .0) in
       ((λ q. ok .not-everyone (sym q ∙ all)), all, h .1)
   of-due (NotOurs b) h =
@@ -70,6 +74,14 @@ only-one-is-due own m h r d =
     let ok = admitted own m h in
     ok .outcome ∙ ap said (sym (case-only own (addressRead (number m)) (formatNumber m) r (of-due own m ok r d)))
 
+pub exactly-one-is-due : ExactlyOneIsDue
+unfolding ExactlyOneIsDue OursIsDue OnlyOneIsDue
+exactly-one-is-due own m h =
+    let ours = ours-is-due own m h in (
+      ours .0,
+      λ s. ((λ d. said-injective s (ours .0) (sym (only-one-is-due own m h s d) ∙ ours .1)), λ e. subst (Due own m) (sym e) (ours .2)),
+    )
+
 -- ---- the sentences
 
 sentence : (own : ℕ) (m : List ℕ) → Unrefused (receptionOutcome own m) → (r : Reception) → (receptionOutcome own m ≡ said r) ↔ Due own m r
@@ -85,6 +97,10 @@ says-own own m h = sentence own m h Own
 pub says-all-call : SaysAllCall
 unfolding SaysAllCall Due
 says-all-call own m h = sentence own m h AllCall
+
+pub says-broadcast : SaysBroadcast
+unfolding SaysBroadcast Due
+says-broadcast own m h = sentence own m h Broadcast
 
 pub says-not-ours : SaysNotOurs
 unfolding SaysNotOurs Due

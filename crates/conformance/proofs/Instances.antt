@@ -1,6 +1,7 @@
 -- A worked instance of each statement, which meets its hypotheses: none of them holds for want of a case. The messages are
 -- those of document 01's bench (the reply 00008000EB2472, sealed for 123456, with bit 17 hit; the interrogation
--- 00000000000003, sealed for 000002, with its last bit hit), and of 112 bits a published reply and interrogation.
+-- 00000000000003, sealed for 000002, with its last bit hit), and of 112 bits a published reply and interrogation. That a
+-- burst can make a broadcast and an all-call of an interrogation is shown too: more than acceptance as own is not excluded.
 use mathlib.Core.Path.{_≡_, refl, sym, ap, _∙_, subst}
 use mathlib.Core.Bool.{true, and-eq-true-iff}
 use mathlib.Core.Logic.{inl, inr}
@@ -23,7 +24,7 @@ use Rattle.division.specs.Polynomial.{polynomial, downwards, product}
 use Rattle.division.specs.Division.{generator, generatorPowers, reduce, divide, quotient, remainder, parity, overlay, addressRead, ReadsAs, Carries}
 use Rattle.encoder.specs.Seals.{wordBytes, withParity, replyParity, interrogationParity, replySeal, interrogationSeal, sealOutcome, replyAfter, interrogationAfter}
 use Rattle.transponder.specs.Receptions.{receptionOf, isReserved, receptionOutcome, said}
-use Rattle.transponder.specs.declared.Reception.the-variants.{Own, AllCall, NotOurs}
+use Rattle.transponder.specs.declared.Reception.the-variants.{Own, AllCall, Broadcast, NotOurs}
 use Rattle.sensor.specs.Changes.{OnLow, Fit, marksAt, lowMarks}
 use Rattle.sensor.specs.Verdicts.{soleMark, severalMark, cleanAnswer, denseAnswer, noFitAnswer, correctedAnswer, syndrome, decisionOf, checked, sensorOutcome, sensorAfter}
 use Rattle.conformance.specs.Refusals.{row, Wrong, handed, outcome, Breaks, SomeBreaks, Applies}
@@ -126,16 +127,17 @@ reads-as : ReadsAs (number (0x00 ∷ 0x00 ∷ 0x00 ∷ 0x00 ∷ 0x00 ∷ 0x00 �
 unfolding ReadsAs number product downwards generator generatorPowers polynomial
 reads-as = (0, 0xFFE812, lit< tt, refl)
 
--- ---- accepting: own of both lengths, all-call in format 11, and not ours with FFFFFF in another format
+-- ---- accepting: own of both lengths, all-call in format 11, not ours with FFFFFF in another format, and broadcast in format 21
 
 answers-met : (receptionOutcome 0x000002 (0x00 ∷ 0x00 ∷ 0x00 ∷ 0x00 ∷ 0x00 ∷ 0x00 ∷ 0x03 ∷ []) ≡ said Own)
     × (receptionOutcome 0x4840D6 (0xA0 ∷ 0x00 ∷ 0x18 ∷ 0x38 ∷ 0xCA ∷ 0x3E ∷ 0x51 ∷ 0xF0 ∷ 0xA8 ∷ 0x00 ∷ 0x00 ∷ 0xD8 ∷ 0xBF ∷ 0xE3 ∷ []) ≡ said Own)
     × (receptionOutcome 0x000002 (interrogationAfter (0x58 ∷ 0x00 ∷ 0x00 ∷ 0x00 ∷ 0x00 ∷ 0x00 ∷ 0x00 ∷ []) 0xFFFFFF) ≡ said AllCall)
     × (receptionOutcome 0x123456 (0x00 ∷ 0x00 ∷ 0x00 ∷ 0x00 ∷ 0xAA ∷ 0xAC ∷ 0x07 ∷ []) ≡ said (NotOurs 0xFFFFFF))
-unfolding polynomial downwards product generator generatorPowers reduce divide quotient remainder parity overlay addressRead number field formatNumber firstBit firstBitAgrees isMessageLength isWord wordBytes withParity interrogationParity interrogationSeal sealOutcome interrogationAfter receptionOf isReserved receptionOutcome
-answers-met = (refl, refl, refl, refl)
+    × (receptionOutcome 0x000002 (interrogationAfter long-unsealed 0xFFFFFF) ≡ said Broadcast)
+unfolding long-unsealed polynomial downwards product generator generatorPowers reduce divide quotient remainder parity overlay addressRead number field formatNumber firstBit firstBitAgrees isMessageLength isWord wordBytes withParity interrogationParity interrogationSeal sealOutcome interrogationAfter receptionOf isReserved receptionOutcome
+answers-met = (refl, refl, refl, refl, refl)
 
--- so the message is read as FFFFFF, and its format is not 11
+-- so the message is read as FFFFFF, and its format is none of 11, 20 and 21
 not-ours-met : ReadsAs (number (0x00 ∷ 0x00 ∷ 0x00 ∷ 0x00 ∷ 0xAA ∷ 0xAC ∷ 0x07 ∷ [])) 0xFFFFFF
 unfolding SaysNotOurs
 not-ours-met =
@@ -155,6 +157,25 @@ empty-bytes = are-bytes empty refl
 burst-met : receptionOutcome 0x000002 (inverted (interrogationAfter empty 0x000002) 1) ≡ said Own → ⊥
 unfolding BurstNeverOwn
 burst-met = burst-never-own empty 0x000002 32 1 empty-bytes interrogation-sealed burst
+
+-- ---- what a burst can do: an interrogation for 4840D6 in format 20, hit in the last window, becomes a broadcast; one for
+-- 510AF9 in format 4, hit in window 0, where its format is, becomes an all-call
+
+long-call : List ℕ
+long-call = 0xA0 ∷ 0x00 ∷ 0x18 ∷ 0x38 ∷ 0xCA ∷ 0x3E ∷ 0x51 ∷ 0xF0 ∷ 0xA8 ∷ 0x00 ∷ 0x00 ∷ 0x00 ∷ 0x00 ∷ 0x00 ∷ []
+
+short-call : List ℕ
+short-call = 0x20 ∷ 0x00 ∷ 0x00 ∷ 0x00 ∷ 0x00 ∷ 0x00 ∷ 0x00 ∷ []
+
+burst-to-broadcast : Bytes long-call × (sealOutcome long-call 0x4840D6 ≡ done) × Burst (interrogationAfter long-call 0x4840D6) 88 0xDAD1C3
+    × (receptionOutcome 0x4840D6 (inverted (interrogationAfter long-call 0x4840D6) 0xDAD1C3) ≡ said Broadcast)
+unfolding long-call Burst polynomial downwards product generator generatorPowers reduce divide quotient remainder parity overlay addressRead number numberBytes inverted field formatNumber firstBit firstBitAgrees isMessageLength isWord wordBytes withParity interrogationParity interrogationSeal sealOutcome interrogationAfter receptionOf isReserved receptionOutcome
+burst-to-broadcast = (are-bytes long-call refl, refl, (lit≤ tt, 0xDAD1C3, lit< tt, lit< tt, refl), refl)
+
+burst-to-all-call : Bytes short-call × (sealOutcome short-call 0x510AF9 ≡ done) × Burst (interrogationAfter short-call 0x510AF9) 0 (0x785631 * 2 ^ 32)
+    × (receptionOutcome 0x510AF9 (inverted (interrogationAfter short-call 0x510AF9) (0x785631 * 2 ^ 32)) ≡ said AllCall)
+unfolding short-call Burst polynomial downwards product generator generatorPowers reduce divide quotient remainder parity overlay addressRead number numberBytes inverted field formatNumber firstBit firstBitAgrees isMessageLength isWord wordBytes withParity interrogationParity interrogationSeal sealOutcome interrogationAfter receptionOf isReserved receptionOutcome
+burst-to-all-call = (are-bytes short-call refl, refl, (lit≤ tt, 0x785631, lit< tt, lit< tt, refl), refl)
 
 -- ---- the sensor: the calls, none of which a row refuses
 

@@ -22,7 +22,7 @@ use Rattle.division.specs.Answers.{registerAnswer, backwardAnswer, overlayAnswe
 use Rattle.encoder.specs.Seals.{sealOutcome, replySeal, replyAfter, interrogationSeal, interrogationAfter}
 use Rattle.transponder.specs.Receptions.{everyone, receptionOf, isReserved, receptionOutcome, said}
 use Rattle.transponder.specs.declared.Reception.{Reception}
-use Rattle.transponder.specs.declared.Reception.the-variants.{Own, AllCall, NotOurs, Refused}
+use Rattle.transponder.specs.declared.Reception.the-variants.{Own, AllCall, Broadcast, NotOurs, Refused}
 use Rattle.transponder.proofs.Laws.{Case, case}
 use Rattle.sensor.specs.Verdicts.{syndrome, Decision, decisionOf, decisionAnswer, checked, sensorOutcome}
 use Rattle.sensor.specs.Verdicts.Decision.{clean, dense, noFit, corrected}
@@ -273,6 +273,7 @@ in-order (writeAltitude m z s) = (lit≤ tt, (lit≤ tt, (lit≤ tt, tt)))
 reception-final : (own a f : ℕ) (r : Reception) → Case own a f r → Unrefused (said r)
 reception-final own a f Own h n e = refusal-is-no-answer (sym e)
 reception-final own a f AllCall h n e = refusal-is-no-answer (sym e)
+reception-final own a f Broadcast h n e = refusal-is-no-answer (sym e)
 reception-final own a f (NotOurs b) h n e = refusal-is-no-answer (sym e)
 reception-final own a f (Refused k) h n e = h
 

@@ -1,4 +1,5 @@
--- What a transponder makes of an interrogation (document 01, 'Transponder'; ATC-117, 3.1).
+-- What a transponder makes of an interrogation (document 01, 'Transponder'; ATC-117, 3.1), with the broadcasts of document
+-- 02, Point 2.
 use Prim.Native.Nat.{ℕ}
 use mathlib.Core.List.{List, [], _∷_}
 use mathlib.Core.Bool.{Bool, cond, not, _&&_, _||_}
@@ -10,7 +11,7 @@ use Rattle.outcome.specs.Refusals.{wrongLength, wordTooLarge, firstBitContradic
 use Rattle.division.specs.Division.{addressRead}
 use Rattle.message.specs.Message.{number, formatNumber, isMessageLength, firstBitAgrees, isWord}
 use Rattle.transponder.specs.declared.Reception.{Reception}
-use Rattle.transponder.specs.declared.Reception.the-variants.{Own, AllCall, NotOurs, Refused}
+use Rattle.transponder.specs.declared.Reception.the-variants.{Own, AllCall, Broadcast, NotOurs, Refused}
 
 -- The address that every transponder reads as sent to all (Annex 10 Volume IV).
 abbrev pub everyone : ℕ
@@ -20,10 +21,16 @@ everyone = 0xFFFFFF
 abbrev pub allCallFormat : ℕ
 allCallFormat = 11
 
+-- The formats of a broadcast to all transponders (Annex 10 Volume IV: UF 20 and 21 with the address of all).
+abbrev pub isBroadcastFormat : ℕ → Bool
+isBroadcastFormat format = eqb format 20 || eqb format 21
+
 -- What a Reception says: document 01's answers, numbered in the order of its list; not ours has the address read.
+-- Broadcast, which that list has not, is 4.
 abbrev pub said : Reception → Outcome
 said Own = answer 1 []
 said AllCall = answer 2 []
+said Broadcast = answer 4 []
 said (NotOurs a) = answer 3 (a ∷ [])
 said (Refused n) = refusal n
 
@@ -32,7 +39,8 @@ unfoldable pub receptionOf : ℕ → ℕ → ℕ → Reception
 receptionOf own address format =
     cond (eqb address own) Own
     (cond (eqb address everyone && eqb format allCallFormat) AllCall
-    (NotOurs address))
+    (cond (eqb address everyone && isBroadcastFormat format) Broadcast
+    (NotOurs address)))
 
 -- The own address is neither 000000 nor FFFFFF (row 6).
 unfoldable pub isReserved : ℕ → Bool

@@ -6,14 +6,15 @@ ghost use mathlib.Core.Bool.{true};
 ghost use lib.ListN.{length};
 ghost use Rattle.division.specs.Division.{addressRead};
 ghost use Rattle.message.specs.Message.{number, isMessageLength, isWord};
-ghost use Rattle.transponder.specs.Receptions.{said, receptionOf, isReserved, receptionOutcome};
+ghost use Rattle.transponder.specs.Receptions.{said, isBroadcastFormat, receptionOf, isReserved, receptionOutcome};
 use division::Word;
 
-// What a transponder makes of an interrogation: its own, an all-call, not its own with the address read, or the number
-// of the refusal.
+// What a transponder makes of an interrogation: its own, an all-call, a broadcast, not its own with the address read, or
+// the number of the refusal.
 pub enum Reception {
     Own,
     AllCall,
+    Broadcast,
     NotOurs(u32),
     Refused(u32),
 }
@@ -61,8 +62,17 @@ fn judge(own: u32, address: u32, format: u32) -> Reception
         if format == 11 {
             return Reception::AllCall;
         }
+        if is_broadcast_format(format) {
+            return Reception::Broadcast;
+        }
     }
     Reception::NotOurs(address)
+}
+
+fn is_broadcast_format(format: u32) -> bool
+    ensures { λ r. ⌜ r ≡ isBroadcastFormat format ⌝ }
+{
+    (format == 20) | (format == 21)
 }
 
 fn is_reserved(own: u32) -> bool
