@@ -1,4 +1,5 @@
-// The remainder of a reply. A long one is copied to 14 bytes and divided there, as the field code does.
+// The remainder of a reply as a number. Division answers with a remainder or a refusal; of a length that the sensor has let
+// pass, the refusal is ruled out here, so that its callers have the number alone.
 ghost use mathlib.Core.Path.{_≡_};
 ghost use mathlib.Core.Bool.{true};
 ghost use lib.ListN.{length};
@@ -7,31 +8,6 @@ ghost use Rattle.message.specs.Message.{number, isMessageLength};
 use division::Word;
 
 pub(crate) fn reply_remainder(m: &[u8]) -> u32
-    requires { ⌜ isMessageLength (length (now m)) ≡ true ⌝ }
-    ensures { λ r. ⌜ r ≡ remainder (number (now (m .entry))) ⌝ }
-{
-    if m.len() == 14 {
-        let mut copy = [0u8; 14];
-        copy_long(m, &mut copy);
-        divide(&copy)
-    } else {
-        divide(m)
-    }
-}
-
-fn copy_long(m: &[u8], copy: &mut [u8])
-    requires { ⌜ length (now m) ≡ 14 ⌝ }
-    requires { ⌜ length (now copy) ≡ 14 ⌝ }
-    ensures { λ _. ⌜ now (copy .exit) ≡ now (m .entry) ⌝ }
-{
-    let mut i: usize = 0;
-    while i < 14 {
-        copy[i] = m[i];
-        i += 1;
-    }
-}
-
-fn divide(m: &[u8]) -> u32
     requires { ⌜ isMessageLength (length (now m)) ≡ true ⌝ }
     ensures { λ r. ⌜ r ≡ remainder (number (now (m .entry))) ⌝ }
 {

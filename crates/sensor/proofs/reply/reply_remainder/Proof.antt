@@ -1,45 +1,27 @@
--- `sensor::reply::reply_remainder` meets its contract: the copy is the message.
-use mathlib.Core.Path.{ap, _∙_}
-use mathlib.Core.List.{List}
-use Prim.Native.Nat.{ℕ}
-use lib.ListN.{length}
+-- `sensor::reply::reply_remainder` meets its contract: a message of 7 or 14 bytes is answered with a value.
+use mathlib.Core.Path.{_∙_}
 use borrow.Author.Needs.{needs}
-use Rattle.division.specs.Division.{remainder}
-use Rattle.message.specs.Message.{number, isMessageLength}
+use Rattle.division.proofs.Laws.{value-is, not-refused, remainder-value}
 use Rattle.sensor.proofs.reply.reply_remainder.Statement.{statement}
 use Rattle.sensor.proofs.reply.reply_remainder.Tie as tie
 
-slice-aggregate-copy-long : tie.Need-slice-aggregate-copy-long
-slice-aggregate-copy-long c = search needs
+message-remainder-requires : tie.Need-message-remainder-requires
+message-remainder-requires c κs = search needs
 
-copy-long-requires : tie.Need-copy-long-requires
-copy-long-requires c κs = search needs
+enum-known-answer : tie.Need-enum-known-answer
+enum-known-answer c = search needs
 
-slice-aggregate-divide : tie.Need-slice-aggregate-divide
-slice-aggregate-divide c = search needs
-
-divide-requires : tie.Need-divide-requires
-divide-requires c κs =
-    ap (λ (t : List ℕ). isMessageLength (length t)) (c .before .before .copy-long .ensures) ∙ c .before .before .before .before .before .before .pre
-
-divide-requires-2 : tie.Need-divide-requires-2
-divide-requires-2 c κs = search needs
+enum-told : tie.Need-enum-told
+enum-told c = search needs
 
 returns : tie.Need-returns
 returns c =
-    c .divide .ensures ∙ ap (λ (t : List ℕ). remainder (number t)) (c .before .before .before .copy-long .ensures)
+    value-is _ _ _ (c .before .answer .given .1) (c .before .before .before .message-remainder .ensures ∙ remainder-value (c .before .before .before .before .before .args .m .now) (c .before .before .before .before .before .pre))
 
 returns-2 : tie.Need-returns-2
-returns-2 c = search needs
+returns-2 c =
+    absurd (not-refused _ _ _ (c .enum-told .given .1) (c .before .before .message-remainder .ensures ∙ remainder-value (c .before .before .before .before .args .m .now) (c .before .before .before .before .pre)))
 
 pub reply-remainder-spec : {M : Type 1} → statement M
 reply-remainder-spec =
-    tie.close
-    (tie.spec
-    slice-aggregate-copy-long
-    copy-long-requires
-    slice-aggregate-divide
-    divide-requires
-    divide-requires-2
-    returns
-    returns-2)
+    tie.close (tie.spec message-remainder-requires enum-known-answer enum-told returns returns-2)
