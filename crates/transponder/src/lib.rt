@@ -75,7 +75,8 @@ fn is_broadcast_format(format: u32) -> bool
     (format == 20) | (format == 21)
 }
 
-fn is_reserved(own: u32) -> bool
+// Whether no aircraft may have an address as its own: 000000 and FFFFFF.
+pub fn is_reserved(own: u32) -> bool
     ensures { λ r. ⌜ r ≡ isReserved own ⌝ }
 {
     (own == 0) | (own == 0xFFFFFF)

@@ -1,0 +1,2 @@
+-- The laws that the crates above cite.
+pub use Rattle.antennas.proofs.Choosing.{answered}

@@ -1,0 +1,3 @@
+-- The laws of the two-antenna transponder.
+pub mod Choosing
+pub mod Laws
