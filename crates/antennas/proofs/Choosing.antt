@@ -1,15 +1,17 @@
--- How the companion's answer splits by its tests, and where a part starts.
-use mathlib.Core.Path.{_≡_, refl, sym, ap, ap₂, _∙_}
+-- How the companion's answer splits by its tests, and where a part starts. The idea: each answer has its condition (`Case`), and
+-- the definition picks the one answer whose condition holds.
+use mathlib.Core.Path.{_≡_, refl, sym, ap, _∙_}
 use mathlib.Core.Bool.{Bool, true, false, not, cond}
 use mathlib.Core.List.{List, []}
 use Prim.Native.Nat.{ℕ, _+_, _-_, _<_, _≤_}
 use native.Mathlib.Nat.{zero-add}
-use native.Mathlib.Omega.{arith}
 use lib.Dec.{ltb}
 use lib.ListN.{length, take}
-use borrow.Author.Tests.{lt-ltb, le-ltb}
-use Rattle.outcome.specs.Outcomes.{Outcome, unless}
+use borrow.Author.Tests.{lt-ltb, le-ltb, ltb-true, ltb-false}
+use Rattle.outcome.specs.Outcomes.{Outcome, unless, Unrefused}
+use Rattle.outcome.specs.Outcomes.Outcome.{refusal}
 use Rattle.outcome.specs.Refusals.{wordTooLarge, ownAddressReserved}
+use Rattle.outcome.proofs.Laws.{never}
 use Rattle.message.specs.Message.{field, isWord}
 use Rattle.transponder.specs.Receptions.{isReserved, receptionOutcome, said as saidReception}
 use Rattle.transponder.specs.declared.Reception.{Reception}
@@ -34,6 +36,27 @@ module _ (own : ℕ) (upper : List ℕ) (p : ℕ) (lower : List ℕ) (q : ℕ) w
   unfolding antennaOf by-tests
   answered e f = sym (ap (λ (s : Bool). by-tests s (isReserved own)) e ∙ ap (by-tests true) f)
 
+  -- the outcome is a chain of the two tests
+  pub said-by-tests : unless (isWord own) wordTooLarge (unless (not (isReserved own)) ownAddressReserved (said (choiceOf own upper p lower q)))
+      ≡ said (antennaOf own upper p lower q)
+  unfolding antennaOf
+  said-by-tests = by (isWord own) (isReserved own)
+    where
+      by : (s t : Bool) → unless s wordTooLarge (unless (not t) ownAddressReserved (said (choiceOf own upper p lower q)))
+          ≡ said (cond s (cond t (Refused ownAddressReserved) (choiceOf own upper p lower q)) (Refused wordTooLarge))
+      by true true = refl
+      by true false = refl
+      by false t = refl
+
+  -- what is answered where no row refuses
+  pub unrefused-choice : Unrefused (said (antennaOf own upper p lower q)) → choiceOf own upper p lower q ≡ antennaOf own upper p lower q
+  unrefused-choice u = by (isWord own) refl (isReserved own) refl
+    where
+      by : (s : Bool) → isWord own ≡ s → (t : Bool) → isReserved own ≡ t → choiceOf own upper p lower q ≡ antennaOf own upper p lower q
+      by true e true f = absurd (u ownAddressReserved (ap said (sym (refused-reserved e f))))
+      by true e false f = answered e f
+      by false e t f = absurd (u wordTooLarge (ap said (sym (refused-word e))))
+
 -- ---- what the transponder's answer makes of a buffer, and the companion's of the part
 
 pub taken-by : (r s : Reception) (o : Outcome) → r ≡ s → saidReception r ≡ o → isTaken (saidReception s) ≡ isTaken o
@@ -42,14 +65,40 @@ taken-by r s o e f = ap isTaken (ap saidReception (sym e) ∙ f)
 pub part-by : (r a b : Antenna) (upper lower : Part) → r ≡ a → r ≡ b → partOf a upper lower ≡ partOf b upper lower
 part-by r a b upper lower e f = ap (λ (x : Antenna). partOf x upper lower) (sym e ∙ f)
 
--- ---- the level decides between two that are taken
+-- ---- the answer by what is taken and the levels
 
-module _ (s : Bool) (p : ℕ) (t : Bool) (q : ℕ) where
-  pub chosen-lower : s ≡ true → t ≡ true → p < q → Lower ≡ chosen s p t q
-  chosen-lower e f l = sym (ap₂ (λ (s t : Bool). chosen s p t q) e f ∙ ap (λ (x : Bool). cond x Lower Upper) (lt-ltb p q l))
+-- the condition of each answer
+abbrev pub Case : Bool → ℕ → Bool → ℕ → Antenna → Type 0
+Case s p t q Upper = (s ≡ true) × (t ≡ true → q ≤ p)
+Case s p t q Lower = (t ≡ true) × (s ≡ true → p < q)
+Case s p t q Neither = (s ≡ true → ⊥) × (t ≡ true → ⊥)
+Case s p t q (Refused n) = ⊥
 
-  pub chosen-upper : s ≡ true → t ≡ true → q ≤ p → Upper ≡ chosen s p t q
-  chosen-upper e f l = sym (ap₂ (λ (s t : Bool). chosen s p t q) e f ∙ ap (λ (x : Bool). cond x Lower Upper) (le-ltb p q l))
+-- of the answer given
+pub case : (s : Bool) (p : ℕ) (t : Bool) (q : ℕ) → Case s p t q (chosen s p t q)
+case true p true q = by (ltb p q) refl
+  where
+    by : (x : Bool) → ltb p q ≡ x → Case true p true q (cond x Lower Upper)
+    by true l = (refl, λ e. ltb-true p q l)
+    by false l = (refl, λ e. ltb-false p q l)
+case true p false q = (refl, λ e. absurd (never e refl))
+case false p true q = (refl, λ e. absurd (never e refl))
+case false p false q = ((λ e. never e refl), λ e. never e refl)
+
+-- and of no other answer
+pub case-only : (s : Bool) (p : ℕ) (t : Bool) (q : ℕ) (x : Antenna) → Case s p t q x → x ≡ chosen s p t q
+case-only true p true q Upper h = sym (ap (λ (x : Bool). cond x Lower Upper) (le-ltb p q (h .1 refl)))
+case-only true p true q Lower h = sym (ap (λ (x : Bool). cond x Lower Upper) (lt-ltb p q (h .1 refl)))
+case-only true p false q Upper h = refl
+case-only true p false q Lower h = absurd (never (h .0) refl)
+case-only false p true q Upper h = absurd (never (h .0) refl)
+case-only false p true q Lower h = refl
+case-only false p false q Upper h = absurd (never (h .0) refl)
+case-only false p false q Lower h = absurd (never (h .0) refl)
+case-only false p false q Neither h = refl
+case-only true p t q Neither h = absurd (h .0 refl)
+case-only false p true q Neither h = absurd (h .1 refl)
+case-only s p t q (Refused n) h = absurd h
 
 -- ---- a part from the first byte on starts where its buffer does
 

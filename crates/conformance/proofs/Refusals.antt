@@ -33,9 +33,13 @@ use Rattle.altitude.specs.Fields.{hasAltitude}
 use Rattle.altitude.specs.Answers.{saidAltitude, saidWriting, readingOf, readingOutcome, writingOutcome}
 use Rattle.altitude.specs.declared.Writing.the-variants.{Written, NoSuchField}
 use Rattle.altitude.proofs.Laws.{reading-final, left-refused}
+use Rattle.antennas.specs.Antennas.{isTaken, choiceOf, said as saidAntenna}
+use Rattle.antennas.specs.declared.Antenna.{Antenna}
+use Rattle.antennas.specs.declared.Antenna.the-variants.{Upper, Lower, Neither, Refused as TwoRefused}
+use Rattle.antennas.proofs.Laws.{Case as AntennaCase, case as antenna-case, said-by-tests}
 use Rattle.conformance.specs.Refusals.{Part, row, Wrong, Call, handed, outcome, lent, after, Breaks, SomeBreaks, Applies, RefusedByLowest, UnrefusedWhereNone, RefusedLeaves}
 use Rattle.conformance.specs.Refusals.Part.{message, field, confidence, word, limit, judged, ownAddress, altitude}
-use Rattle.conformance.specs.Refusals.Call.{registerStep, registerBack, uplinkOverlay, fieldParity, messageRemainder, addressRead as readAddress, sealReply, sealInterrogation, receive, correct, readAltitude, writeAltitude}
+use Rattle.conformance.specs.Refusals.Call.{registerStep, registerBack, uplinkOverlay, fieldParity, messageRemainder, addressRead as readAddress, sealReply, sealInterrogation, receive, correct, readAltitude, writeAltitude, takenAntenna}
 
 -- ---- the test of each part
 
@@ -239,6 +243,7 @@ final (receive own m) = said (receptionOf own (addressRead (number m)) (formatNu
 final (correct m c w l) = decisionAnswer m (syndrome m w) (decisionOf m c w l)
 final (readAltitude m) = saidAltitude (readingOf m)
 final (writeAltitude m z s) = saidWriting (cond (hasAltitude m) Written NoSuchField)
+final (takenAntenna own u p l q) = saidAntenna (choiceOf own u p l q)
 
 is-chain : (c : Call) → chain (handed c) (final c) ≡ outcome c
 unfolding chain passes row handed final outcome registerAnswer backwardAnswer overlayAnswer parityAnswer remainderAnswer addressAnswer sealOutcome receptionOutcome sensorOutcome checked readingOutcome writingOutcome
@@ -254,6 +259,7 @@ is-chain (receive own m) = refl
 is-chain (correct m c w l) = refl
 is-chain (readAltitude m) = refl
 is-chain (writeAltitude m z s) = refl
+is-chain (takenAntenna own u p l q) = said-by-tests own u p l q
 
 in-order : (c : Call) → From 0 (handed c)
 unfolding From handed row
@@ -269,6 +275,7 @@ in-order (receive own m) = (lit≤ tt, (lit≤ tt, (lit≤ tt, (lit≤ tt, tt)))
 in-order (correct m c w l) = (lit≤ tt, (lit≤ tt, (lit≤ tt, (lit≤ tt, tt))))
 in-order (readAltitude m) = (lit≤ tt, (lit≤ tt, tt))
 in-order (writeAltitude m z s) = (lit≤ tt, (lit≤ tt, (lit≤ tt, tt)))
+in-order (takenAntenna own u p l q) = (lit≤ tt, (lit≤ tt, tt))
 
 reception-final : (own a f : ℕ) (r : Reception) → Case own a f r → Unrefused (said r)
 reception-final own a f Own h n e = refusal-is-no-answer (sym e)
@@ -287,6 +294,12 @@ writing-final : (t : Bool) → Unrefused (saidWriting (cond t Written NoSuchFiel
 writing-final true n e = refusal-is-no-answer (sym e)
 writing-final false n e = refusal-is-no-answer (sym e)
 
+antenna-final : (s : Bool) (p : ℕ) (t : Bool) (q : ℕ) (x : Antenna) → AntennaCase s p t q x → Unrefused (saidAntenna x)
+antenna-final s p t q Upper h n e = refusal-is-no-answer (sym e)
+antenna-final s p t q Lower h n e = refusal-is-no-answer (sym e)
+antenna-final s p t q Neither h n e = refusal-is-no-answer (sym e)
+antenna-final s p t q (TwoRefused k) h n e = h
+
 is-final : (c : Call) → Unrefused (final c)
 unfolding final
 is-final (registerStep r b) n e = refusal-is-no-answer (sym e)
@@ -301,6 +314,7 @@ is-final (receive own m) n e = reception-final own (addressRead (number m)) (for
 is-final (correct m c w l) n e = decision-final m (syndrome m w) (decisionOf m c w l) n e
 is-final (readAltitude m) n e = reading-final m n e
 is-final (writeAltitude m z s) n e = writing-final (hasAltitude m) n e
+is-final (takenAntenna own u p l q) n e = antenna-final _ p _ q (choiceOf own u p l q) (antenna-case (isTaken (receptionOutcome own u)) p (isTaken (receptionOutcome own l)) q) n e
 
 -- ---- the theorems
 
@@ -332,3 +346,4 @@ refused-leaves (receive own m) n e = refl
 refused-leaves (correct m c w l) n e = after-refused m c w l n e
 refused-leaves (readAltitude m) n e = refl
 refused-leaves (writeAltitude m z s) n e = sym (left-refused m z s n (sym e))
+refused-leaves (takenAntenna own u p l q) n e = refl

@@ -22,6 +22,7 @@ use Rattle.transponder.specs.Receptions.{receptionOutcome}
 use Rattle.sensor.specs.Verdicts.{sensorOutcome, sensorAfter}
 use Rattle.altitude_code.specs.Altitudes.{lowest, highest}
 use Rattle.altitude.specs.Answers.{readingOutcome, writingOutcome, writingAfter}
+use Rattle.antennas.specs.Antennas.{antennaOf, said as saidAntenna}
 
 -- ---- the table
 
@@ -79,8 +80,10 @@ pub data Call : Type 0 where
   correct : List ℕ → List ℕ → ℕ → ℕ → Call
   readAltitude : List ℕ → Call
   writeAltitude : List ℕ → ℤ → ℕ → Call
+  takenAntenna : ℕ → List ℕ → ℕ → List ℕ → ℕ → Call
 
--- What each hands over: the table's column 'Calls'.
+-- What each hands over: the table's column 'Calls'. The companion of the two-antenna transponder hands over the own address
+-- alone: 'A buffer that would be refused is simply not taken' (document 02, Point 5).
 unfoldable pub handed : Call → List Part
 handed (registerStep r b) = word r ∷ []
 handed (registerBack r) = word r ∷ []
@@ -94,6 +97,7 @@ handed (receive own m) = message m ∷ word own ∷ judged m ∷ ownAddress own 
 handed (correct m c w l) = message m ∷ confidence m c ∷ word w ∷ limit l ∷ []
 handed (readAltitude m) = message m ∷ judged m ∷ []
 handed (writeAltitude m z s) = message m ∷ judged m ∷ altitude z s ∷ []
+handed (takenAntenna own u p l q) = word own ∷ ownAddress own ∷ []
 
 -- What each answers: the definition that its contract names.
 unfoldable pub outcome : Call → Outcome
@@ -109,6 +113,7 @@ outcome (receive own m) = receptionOutcome own m
 outcome (correct m c w l) = sensorOutcome m c w l
 outcome (readAltitude m) = readingOutcome m
 outcome (writeAltitude m z s) = writingOutcome m z s
+outcome (takenAntenna own u p l q) = saidAntenna (antennaOf own u p l q)
 
 -- The buffer that each is lent to write in, and what it holds after the call; no bytes where nothing is lent so.
 unfoldable pub lent : Call → List ℕ
@@ -124,6 +129,7 @@ lent (receive own m) = []
 lent (correct m c w l) = m
 lent (readAltitude m) = []
 lent (writeAltitude m z s) = m
+lent (takenAntenna own u p l q) = []
 
 unfoldable pub after : Call → List ℕ
 after (registerStep r b) = []
@@ -138,6 +144,7 @@ after (receive own m) = []
 after (correct m c w l) = sensorAfter m c w l
 after (readAltitude m) = []
 after (writeAltitude m z s) = writingAfter m z s
+after (takenAntenna own u p l q) = []
 
 -- ---- the statements
 

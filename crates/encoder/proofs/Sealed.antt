@@ -1,11 +1,11 @@
 -- A sealed message: its length, its field, its parity field and its number.
 use mathlib.Core.Path.{_≡_, refl, sym, ap, ap₂, _∙_, subst}
-use mathlib.Core.List.{List, [], _∷_}
+use mathlib.Core.List.{List, [], _∷_, _++_}
 use Prim.Native.Nat.{ℕ, zero, suc, _+_, _-_, _*_, _/_, _%_, _^_, _<_, _≤_}
 use native.Mathlib.Omega.{arith}
 use lib.Dec.{lit<}
 use lib.Bits.{bitXor, xor-lt}
-use lib.ListN.{length, length-append}
+use lib.ListN.{length, getD, length-append, take-append-drop, List·getD-append}
 use lib.Seq.{take-at, drop-at}
 use Rattle.division.specs.Division.{parity, overlay}
 use Rattle.message.specs.Message.{number, Bytes, field, parityField}
@@ -66,6 +66,20 @@ module _ (m : List ℕ) (p : ℕ) (h : 3 ≤ length m) where
   unfolding withParity
   sealed-bytes hm hp =
       bytes-append (field m) (wordBytes p) (subst Bytes (sym (field-is m)) (bytes-take (length m - 3) m hm)) (word-bytes p hp)
+
+-- the first byte stays, as the field has it
+pub sealed-first : (m : List ℕ) (p : ℕ) → 4 ≤ length m → getD (withParity m p) 0 0 ≡ getD m 0 0
+sealed-first m p h =
+    sym (of-field (withParity m p) (subst (λ (n : ℕ). 4 ≤ n) (sym (sealed-length m p three)) h))
+    ∙ ap (λ (l : List ℕ). getD l 0 0) (sealed-field m p three) ∙ of-field m h
+  where
+    three : 3 ≤ length m
+    three = omega arith
+
+    of-field : (l : List ℕ) → 4 ≤ length l → getD (field l) 0 0 ≡ getD l 0 0
+    of-field l g =
+        sym (List·getD-append (field l) (parityField l) 0 0 (omega (arith, field-length l (omega arith))))
+        ∙ ap (λ (k : List ℕ). getD k 0 0) (ap₂ _++_ (field-is l) (parityField-is l) ∙ take-append-drop (length l - 3) l)
 
 -- a message is its own field with its own parity field
 pub own-parity : (m : List ℕ) → 3 ≤ length m → Bytes m → m ≡ withParity m (number (parityField m))

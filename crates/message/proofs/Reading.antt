@@ -15,6 +15,10 @@ pub same-format : (m n : List ℕ) → getD m 0 0 ≡ getD n 0 0 → formatNumbe
 unfolding formatNumber
 same-format m n e = ap (λ (b : ℕ). b / 2 ^ 3) e
 
+pub first-bit-by : (m n : List ℕ) → getD m 0 0 ≡ getD n 0 0 → firstBit m ≡ firstBit n
+unfolding firstBit
+first-bit-by m n e = ap (λ (b : ℕ). b / 2 ^ 7) e
+
 pub same-first-bit : (m n : List ℕ) → getD m 0 0 ≡ getD n 0 0 → length m ≡ length n → firstBitAgrees m ≡ firstBitAgrees n
 unfolding firstBitAgrees firstBit
 same-first-bit m n e l = ap₂ (λ (b k : ℕ). eqb (b / 2 ^ 7) (bitOf (eqb k 14))) e l

@@ -1,14 +1,15 @@
 -- `antennas::choose` meets its contract.
 use borrow.Author.Needs.{needs}
-use Rattle.antennas.proofs.Choosing.{chosen-lower, chosen-upper}
+use Rattle.antennas.specs.declared.Antenna.the-variants.{Upper, Lower}
+use Rattle.antennas.proofs.Choosing.{case-only}
 use Rattle.antennas.proofs.choose.Statement.{statement}
 use Rattle.antennas.proofs.choose.Tie as tie
 
 returns : tie.Need-returns
-returns c = chosen-lower _ _ _ _ (c .before .before .if1 .taken) (c .before .if2 .taken) (c .if3 .taken)
+returns c = let a = c .before .before .before .args in case-only (a .upper) (a .p) (a .lower) (a .q) Lower (c .before .if2 .taken, λ e. c .if3 .taken)
 
 returns-2 : tie.Need-returns-2
-returns-2 c = chosen-upper _ _ _ _ (c .before .before .if1 .taken) (c .before .if2 .taken) (c .if3 .left)
+returns-2 c = let a = c .before .before .before .args in case-only (a .upper) (a .p) (a .lower) (a .q) Upper (c .before .before .if1 .taken, λ e. c .if3 .left)
 
 returns-3 : tie.Need-returns-3
 returns-3 c = search needs
