@@ -6,6 +6,7 @@ pub mod Accepting
 pub mod Right
 pub mod Correcting
 pub mod Altitudes
+pub mod Antennas
 pub mod Bench
 pub mod Instances
 pub mod AltitudeInstances

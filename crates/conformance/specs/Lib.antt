@@ -6,4 +6,5 @@ pub mod Bursts
 pub mod Accepting
 pub mod Correcting
 pub mod Altitudes
+pub mod Antennas
 pub mod Bench

@@ -1,0 +1,126 @@
+-- The two-antenna transponder (document 02, Point 5).
+--
+-- u and l are the bytes of the upper and of the lower buffer, p and q their levels, a and b where they start.
+use Prim.Native.Nat.{ℕ, _≤_, _<_}
+use mathlib.Core.Path.{_≡_}
+use mathlib.Core.Logic.{_↔_, _⊎_}
+use mathlib.Core.List.{List, []}
+use lib.ListN.{length}
+use Rattle.outcome.specs.Outcomes.{done}
+use Rattle.outcome.specs.Outcomes.Outcome.{refusal}
+use Rattle.message.specs.Message.{number, Bytes, field, firstBit, formatNumber}
+use Rattle.message.specs.Bits.{inverted}
+use Rattle.division.specs.Division.{ReadsAs}
+use Rattle.encoder.specs.Seals.{sealOutcome, interrogationAfter}
+use Rattle.transponder.specs.Receptions.{receptionOutcome, said}
+use Rattle.transponder.specs.declared.Reception.the-variants.{Own, AllCall, Broadcast}
+use Rattle.antennas.specs.Antennas.{antennaOf, Part, partOf}
+use Rattle.antennas.specs.declared.Antenna.the-variants.{Upper, Lower, Neither, Refused}
+use Rattle.conformance.specs.Bursts.{Burst}
+
+-- ---- what is taken
+
+-- An own address to which neither row 3 nor row 6 applies.
+unfoldable pub Permitted : ℕ → Type 0
+Permitted own = (own ≤ 0xFFFFFF) × (own ≡ 0x000000 → ⊥) × (own ≡ 0xFFFFFF → ⊥)
+
+-- An interrogation to which neither row 1 nor row 5 applies: 'A first bit 0 belongs to n = 56 and 1 to n = 112.'
+unfoldable pub Whole : List ℕ → Type 0
+Whole m = ((length m ≡ 7) × (firstBit m ≡ 0)) ⊎ ((length m ≡ 14) × (firstBit m ≡ 1))
+
+-- A buffer that is taken: read as the own address; or as FFFFFF, in format 11, 20 or 21.
+unfoldable pub Taken : ℕ → List ℕ → Type 0
+Taken own m =
+    Whole m
+    × (ReadsAs (number m) own
+    ⊎ (ReadsAs (number m) 0xFFFFFF × ((formatNumber m ≡ 11) ⊎ ((formatNumber m ≡ 20) ⊎ (formatNumber m ≡ 21)))))
+
+-- 'A buffer is taken when the transponder would accept it as own, all-call or broadcast.'
+unfoldable pub TakenIsAccepted : Type 0
+TakenIsAccepted =
+    (own : ℕ) (m : List ℕ) → Permitted own
+    → Taken own m
+    ↔ ((receptionOutcome own m ≡ said Own) ⊎ ((receptionOutcome own m ≡ said AllCall) ⊎ (receptionOutcome own m ≡ said Broadcast)))
+
+-- 'A buffer that would be refused is simply not taken.'
+unfoldable pub RefusedNotTaken : Type 0
+RefusedNotTaken = (own : ℕ) (m : List ℕ) (n : ℕ) → Permitted own → receptionOutcome own m ≡ refusal n → Taken own m → ⊥
+
+-- ---- the companion
+
+-- 'A companion call with the same inputs answers upper, lower or neither': each exactly when. 'If both are, the higher level
+-- wins, and equal levels give the upper.'
+unfoldable pub SaysUpper : Type 0
+SaysUpper =
+    (own : ℕ) (u : List ℕ) (p : ℕ) (l : List ℕ) (q : ℕ)
+    → (antennaOf own u p l q ≡ Upper) ↔ (Permitted own × Taken own u × (Taken own l → q ≤ p))
+
+unfoldable pub SaysLower : Type 0
+SaysLower =
+    (own : ℕ) (u : List ℕ) (p : ℕ) (l : List ℕ) (q : ℕ)
+    → (antennaOf own u p l q ≡ Lower) ↔ (Permitted own × Taken own l × (Taken own u → p < q))
+
+unfoldable pub SaysNeither : Type 0
+SaysNeither =
+    (own : ℕ) (u : List ℕ) (p : ℕ) (l : List ℕ) (q : ℕ)
+    → (antennaOf own u p l q ≡ Neither) ↔ (Permitted own × (Taken own u → ⊥) × (Taken own l → ⊥))
+
+-- 'or refusal 3 or 6 for the own address': that of its row, exactly when it applies, whatever the buffers are.
+unfoldable pub SaysRefused : Type 0
+SaysRefused =
+    (own : ℕ) (u : List ℕ) (p : ℕ) (l : List ℕ) (q n : ℕ)
+    → (antennaOf own u p l q ≡ Refused n)
+    ↔ (((n ≡ 3) × (0xFFFFFF < own)) ⊎ ((n ≡ 6) × ((own ≡ 0x000000) ⊎ (own ≡ 0xFFFFFF))))
+
+-- ---- the part
+
+-- What is returned for two buffers, with where they start.
+unfoldable pub returned : ℕ → Part → ℕ → Part → ℕ → Part
+returned own upper p lower q = partOf (antennaOf own (upper .1) p (lower .1) q) upper lower
+
+-- 'If one is taken, return its field bytes as a part of that caller's buffer': the companion answers upper exactly when the
+-- part is the upper buffer's field and has bytes, and lower alike. Two fields of the same bytes in the same place, one buffer
+-- given twice, cannot be told apart.
+unfoldable pub UpperPart : Type 0
+UpperPart =
+    (own : ℕ) (a : ℕ × ℕ) (u : List ℕ) (p : ℕ) (b : ℕ × ℕ) (l : List ℕ) (q : ℕ)
+    → (_≡_ {A = Part} (a, field u) (b, field l) → ⊥)
+    → (antennaOf own u p l q ≡ Upper)
+    ↔ ((returned own (a, u) p (b, l) q ≡ (a, field u)) × (returned own (a, u) p (b, l) q .1 ≡ [] → ⊥))
+
+unfoldable pub LowerPart : Type 0
+LowerPart =
+    (own : ℕ) (a : ℕ × ℕ) (u : List ℕ) (p : ℕ) (b : ℕ × ℕ) (l : List ℕ) (q : ℕ)
+    → (_≡_ {A = Part} (a, field u) (b, field l) → ⊥)
+    → (antennaOf own u p l q ≡ Lower)
+    ↔ ((returned own (a, u) p (b, l) q ≡ (b, field l)) × (returned own (a, u) p (b, l) q .1 ≡ [] → ⊥))
+
+-- 'If neither is, return the empty part of the upper buffer'; 'where it refuses, the part is the empty one'. There alone it
+-- has no bytes.
+unfoldable pub EmptyPart : Type 0
+EmptyPart =
+    (own : ℕ) (a : ℕ × ℕ) (u : List ℕ) (p : ℕ) (b : ℕ × ℕ) (l : List ℕ) (q : ℕ)
+    → (((antennaOf own u p l q ≡ Neither) ⊎ ((n : ℕ) × (antennaOf own u p l q ≡ Refused n)))
+    ↔ (returned own (a, u) p (b, l) q .1 ≡ []))
+    × (returned own (a, u) p (b, l) q .1 ≡ [] → returned own (a, u) p (b, l) q ≡ (a, []))
+
+-- The field has 4 bytes or 11.
+unfoldable pub PartLengths : Type 0
+PartLengths =
+    (own : ℕ) (a : ℕ × ℕ) (u : List ℕ) (p : ℕ) (b : ℕ × ℕ) (l : List ℕ) (q : ℕ)
+    → (returned own (a, u) p (b, l) q .1 ≡ [] → ⊥)
+    → (length (returned own (a, u) p (b, l) q .1) ≡ 4) ⊎ (length (returned own (a, u) p (b, l) q .1) ≡ 11)
+
+-- ---- bursts
+
+-- 'An own interrogation hit by a burst on one antenna therefore never displaces an undamaged one on the other, unless the
+-- burst made it an all-call or a broadcast.' m and n were sealed for the own address, and m's seal was hit; on either antenna,
+-- at any levels, n's is the one taken.
+unfoldable pub BurstNeverDisplaces : Type 0
+BurstNeverDisplaces =
+    (own : ℕ) (m n : List ℕ) (w d p q : ℕ) → Permitted own → Bytes m → Bytes n → sealOutcome m own ≡ done → sealOutcome n own ≡ done
+    → Burst (interrogationAfter m own) w d
+    → (receptionOutcome own (inverted (interrogationAfter m own) d) ≡ said AllCall → ⊥)
+    → (receptionOutcome own (inverted (interrogationAfter m own) d) ≡ said Broadcast → ⊥)
+    → (antennaOf own (inverted (interrogationAfter m own) d) p (interrogationAfter n own) q ≡ Lower)
+    × (antennaOf own (interrogationAfter n own) p (inverted (interrogationAfter m own) d) q ≡ Upper)
