@@ -27,6 +27,8 @@ use Rattle.transponder.specs.Receptions.{receptionOf, isReserved, receptionOutc
 use Rattle.transponder.specs.declared.Reception.the-variants.{Own, AllCall, Broadcast, NotOurs}
 use Rattle.sensor.specs.Changes.{OnLow, Fit, marksAt, lowMarks}
 use Rattle.sensor.specs.Verdicts.{soleMark, severalMark, cleanAnswer, denseAnswer, noFitAnswer, correctedAnswer, syndrome, decisionOf, checked, sensorOutcome, sensorAfter}
+use Rattle.antennas.specs.Antennas.{antennaOf, Part}
+use Rattle.antennas.specs.declared.Antenna.the-variants.{Upper, Lower, Neither, Refused}
 use Rattle.conformance.specs.Refusals.{row, Wrong, handed, outcome, Breaks, SomeBreaks, Applies}
 use Rattle.conformance.specs.Refusals.Call.{sealReply}
 use Rattle.conformance.specs.Sealing.{Message, CarriesReply}
@@ -34,9 +36,11 @@ use Rattle.conformance.specs.Bursts.{Burst}
 use Rattle.conformance.specs.Accepting.{SaysNotOurs, BurstNeverOwn}
 use Rattle.conformance.specs.Correcting.{Judged, IsDense, LowestDense, NoneDense, LowestFit, OnlyChange, AnotherChange, Right, OnlyOneIsRight, OthersLeave, HitReply}
 use Rattle.conformance.specs.Correcting.Right.{clean, dense, noFit, sole, several}
+use Rattle.conformance.specs.Antennas.{Permitted, TakenIsAccepted, SaysUpper, SaysLower, returned, UpperPart, BurstNeverDisplaces}
 use Rattle.conformance.proofs.Refusals.{decision-final}
 use Rattle.conformance.proofs.Sealing.{carries-reply}
 use Rattle.conformance.proofs.Accepting.{says-not-ours, burst-never-own}
+use Rattle.conformance.proofs.Antennas.{taken-is-accepted, says-upper, says-lower, upper-part, burst-never-displaces}
 use Rattle.conformance.proofs.Right.{only-one-is-right}
 use Rattle.conformance.proofs.Correcting.{others-leave, hit-reply}
 
@@ -176,6 +180,59 @@ burst-to-all-call : Bytes short-call × (sealOutcome short-call 0x510AF9 ≡ don
     × (receptionOutcome 0x510AF9 (inverted (interrogationAfter short-call 0x510AF9) (0x785631 * 2 ^ 32)) ≡ said AllCall)
 unfolding short-call Burst polynomial downwards product generator generatorPowers reduce divide quotient remainder parity overlay addressRead number numberBytes inverted field formatNumber firstBit firstBitAgrees isMessageLength isWord wordBytes withParity interrogationParity interrogationSeal sealOutcome interrogationAfter receptionOf isReserved receptionOutcome
 burst-to-all-call = (are-bytes short-call refl, refl, (lit≤ tt, 0x785631, lit< tt, lit< tt, refl), refl)
+
+-- ---- two antennas: own and all-call at levels below, equal and above, so that own is not preferred; buffers of which the
+-- transponder would refuse one by its length and one by its first bit; and both refusals
+
+own-call : List ℕ
+own-call = 0x00 ∷ 0x00 ∷ 0x00 ∷ 0x00 ∷ 0x00 ∷ 0x00 ∷ 0x03 ∷ []
+
+all-call : List ℕ
+all-call = interrogationAfter (0x58 ∷ 0x00 ∷ 0x00 ∷ 0x00 ∷ 0x00 ∷ 0x00 ∷ 0x00 ∷ []) 0xFFFFFF
+
+antennas-met : (antennaOf 0x000002 own-call 5 all-call 6 ≡ Lower) × (antennaOf 0x000002 own-call 6 all-call 6 ≡ Upper)
+    × (antennaOf 0x000002 all-call 6 own-call 5 ≡ Upper) × (antennaOf 0x000002 [] 255 (0x80 ∷ 0x00 ∷ 0x00 ∷ 0x00 ∷ 0x00 ∷ 0x00 ∷ 0x03 ∷ []) 255 ≡ Neither)
+    × (antennaOf 0x1000000 own-call 5 all-call 6 ≡ Refused 3) × (antennaOf 0xFFFFFF own-call 5 all-call 6 ≡ Refused 6)
+unfolding own-call all-call polynomial downwards product generator generatorPowers reduce divide quotient remainder parity overlay addressRead number field formatNumber firstBit firstBitAgrees isMessageLength isWord wordBytes withParity interrogationParity interrogationSeal sealOutcome interrogationAfter receptionOf isReserved receptionOutcome antennaOf
+antennas-met = (refl, refl, refl, refl, refl, refl)
+
+-- two buffers in two places: the part is the field of the upper one, in its place
+part-met : returned 0x000002 ((0, 0), own-call) 6 ((1, 0), all-call) 6 ≡ ((0, 0), 0x00 ∷ 0x00 ∷ 0x00 ∷ 0x00 ∷ [])
+unfolding UpperPart own-call field
+part-met = upper-part 0x000002 (0, 0) own-call 6 (1, 0) all-call 6 elsewhere .0 (antennas-met .1) .0
+  where
+    elsewhere : _≡_ {A = Part} ((0, 0), field own-call) ((1, 0), field all-call) → ⊥
+    elsewhere e = let z : _≡_ {A = ℕ} 0 1 = ap (λ (x : Part). x .0 .0) e in omega arith
+
+-- the interrogation whose last bit was hit does not displace an undamaged one, at any levels
+own-permitted : Permitted 0x000002 × Permitted 0x4840D6 × Permitted 0x510AF9
+unfolding Permitted
+own-permitted = (
+  (lit≤ tt, (λ e. omega arith), λ e. omega arith),
+  (lit≤ tt, (λ e. omega arith), λ e. omega arith),
+  (lit≤ tt, (λ e. omega arith), λ e. omega arith),
+)
+
+hit-not-ours : receptionOutcome 0x000002 (inverted (interrogationAfter empty 0x000002) 1) ≡ said (NotOurs 0x000003)
+unfolding empty polynomial downwards product generator generatorPowers reduce divide quotient remainder parity overlay addressRead number numberBytes inverted field formatNumber firstBit firstBitAgrees isMessageLength isWord wordBytes withParity interrogationParity interrogationSeal sealOutcome interrogationAfter receptionOf isReserved receptionOutcome
+hit-not-ours = refl
+
+not-displaced : (p q : ℕ)
+    → (antennaOf 0x000002 (inverted (interrogationAfter empty 0x000002) 1) p (interrogationAfter empty 0x000002) q ≡ Lower)
+    × (antennaOf 0x000002 (interrogationAfter empty 0x000002) p (inverted (interrogationAfter empty 0x000002) 1) q ≡ Upper)
+unfolding BurstNeverDisplaces
+not-displaced p q =
+    burst-never-displaces 0x000002 empty empty 32 1 p q (own-permitted .0) empty-bytes empty-bytes interrogation-sealed interrogation-sealed burst
+    (λ e. omega (arith, same-answer (sym hit-not-ours ∙ e))) (λ e. omega (arith, same-answer (sym hit-not-ours ∙ e)))
+
+-- the exception: the bursts above made a broadcast and an all-call, which at a higher level displace the undamaged one
+displaced : (antennaOf 0x4840D6 (inverted (interrogationAfter long-call 0x4840D6) 0xDAD1C3) 9 (interrogationAfter long-call 0x4840D6) 3 ≡ Upper)
+    × (antennaOf 0x510AF9 (interrogationAfter short-call 0x510AF9) 3 (inverted (interrogationAfter short-call 0x510AF9) (0x785631 * 2 ^ 32)) 9 ≡ Lower)
+unfolding SaysUpper SaysLower TakenIsAccepted
+displaced = (
+  says-upper 0x4840D6 _ 9 _ 3 .1 (own-permitted .1, taken-is-accepted 0x4840D6 _ (own-permitted .1) .1 (inr (inr (burst-to-broadcast .3))), λ t. lit≤ tt),
+  says-lower 0x510AF9 _ 3 _ 9 .1 (own-permitted .2, taken-is-accepted 0x510AF9 _ (own-permitted .2) .1 (inr (inl (burst-to-all-call .3))), λ t. lit< tt),
+)
 
 -- ---- the sensor: the calls, none of which a row refuses
 
