@@ -1,8 +1,9 @@
 //! What `calls` has to print for a whole input: one public call a line, four
 //! columns out (line number, answer, value, message after a seal, the sensor or
-//! the writing of an altitude).
+//! the writing of an altitude; of two antennas the part).
 
 use crate::altitude::{self, reading_rows, writing_rows, Altitude};
+use crate::antennas::{antenna_rows, take, Antenna, Received};
 use crate::rules::*;
 use crate::sensor::{sense, sensor_rows, Answer};
 use crate::sift::Request;
@@ -16,6 +17,9 @@ pub const MOST_LIMIT_DIGITS: usize = 9;
 
 /// The most digits of feet and of a step.
 pub const MOST_FEET_DIGITS: usize = 7;
+
+/// The most digits of a level.
+pub const MOST_LEVEL_DIGITS: usize = 3;
 
 /// A well-formed line.
 #[derive(Debug, Clone, PartialEq, Eq)]
@@ -35,6 +39,8 @@ pub enum Call {
     Altitude(Vec<u8>),
     /// The message, the altitude in feet and the step.
     Write(Vec<u8>, i32, u32),
+    /// The own address, and what the upper and the lower antenna received.
+    Antennas(u32, Received, Received),
 }
 
 /// What a call answers.
@@ -50,6 +56,8 @@ pub enum Reply {
     Sensed(Answer, Vec<u8>),
     Said(Altitude),
     Written(Vec<u8>),
+    /// The antenna and the part.
+    Taken(Antenna, Vec<u8>),
     NoSuchField,
     Refused(u8),
 }
@@ -75,6 +83,11 @@ fn bit(text: &[u8]) -> Option<bool> {
         b"1" => Some(true),
         _ => None,
     }
+}
+
+fn received(message: &[u8], level: &[u8]) -> Option<Received> {
+    let level = u8::try_from(decimal_number(level, MOST_LEVEL_DIGITS)?).ok()?;
+    Some(Received { message: byte_string(message)?, level })
 }
 
 /// Reads a line without its line feed; none if it is malformed.
@@ -104,6 +117,7 @@ pub fn read(line: &[u8]) -> Option<Call> {
             signed_number(b, MOST_FEET_DIGITS)?,
             decimal_number(c, MOST_FEET_DIGITS)?,
         ),
+        [b"antennas", a, b, c, d, e] => Call::Antennas(word(a)?, received(b, c)?, received(d, e)?),
         _ => return None,
     })
 }
@@ -129,6 +143,7 @@ pub fn rows(call: &Call) -> Vec<u8> {
         }
         Call::Altitude(message) => reading_rows(message),
         Call::Write(message, feet, step) => writing_rows(message, *feet, *step),
+        Call::Antennas(own, ..) => antenna_rows(*own),
     }
 }
 
@@ -162,6 +177,10 @@ pub fn answer(call: &Call) -> Reply {
         Call::Altitude(message) => altitude::read(message).map_or(Reply::NoSuchField, Reply::Said),
         Call::Write(message, feet, step) => {
             altitude::write(message, *feet, *step).map_or(Reply::NoSuchField, Reply::Written)
+        }
+        Call::Antennas(own, upper, lower) => {
+            let (antenna, part) = take(*own, upper, lower);
+            Reply::Taken(antenna, part.to_vec())
         }
     }
 }
@@ -228,6 +247,7 @@ pub fn print(number: usize, judged: &Judged) -> String {
         }
         Reply::Said(altitude) => altitude_columns(*altitude),
         Reply::Written(message) => format!("written - {}", hex_or_dash(message)),
+        Reply::Taken(antenna, part) => format!("{} - {}", antenna.word(), hex_or_dash(part)),
         Reply::NoSuchField => format!("nofield - {}", unchanged(call)),
         Reply::Refused(row) => format!("refused {row} {}", unchanged(call)),
     };
@@ -299,6 +319,24 @@ mod tests {
     }
 
     #[test]
+    fn two_antennas() {
+        for (arguments, columns) in [
+            ("4840D6 20000000F01B9B 7 580000004A430A 8", "lower - 58000000"),
+            ("4840D6 20000000F01B9B 008 580000004A430A 8", "upper - 20000000"),
+            (
+                "4840D6 00000000AAAC07 255 A0001838CA3E51F0A80000D8BFE3 0",
+                "lower - A0001838CA3E51F0A80000",
+            ),
+            ("4840D6 - 255 A0000000F01B9B 255", "neither - -"),
+            ("1000000 - 0 - 0", "refused 3 -"),
+            ("0 20000000F01B9B 1 20000000F01B9B 0", "refused 6 -"),
+            ("FFFFFF 580000004A430A 1 - 0", "refused 6 -"),
+        ] {
+            assert_eq!(printed(&format!("antennas {arguments}")), format!("1 {columns}\n"));
+        }
+    }
+
+    #[test]
     fn columns_that_no_call_has() {
         for line in [
             "sensor 00000000EB2472 00008000000000 123456",
@@ -320,6 +358,12 @@ mod tests {
             "write 20000000000000 00000000 25",
             "write 20000000000000 0 -25",
             "write 20000000000000 0 00000025",
+            "antennas 4840D6 - 0 - 256",
+            "antennas 4840D6 - 0000 - 0",
+            "antennas 4840D6 - 0 - -",
+            "antennas 4840D6 - 0 - 0 0",
+            "antennas 4840D6 - 0 -",
+            "antennas - - 0 - 0",
         ] {
             assert_eq!(printed(line), "1 malformed - -\n", "{line}");
         }

@@ -3,6 +3,7 @@
 
 use crate::altitude::Altitude;
 use crate::altitude_kinds;
+use crate::antennas_kinds;
 use crate::blocks::{Aim, INPUTS, MALFORMED};
 use crate::calls::{rows, Call, Judged, Reply};
 use crate::calls_lines::*;
@@ -53,6 +54,7 @@ fn answers() -> Vec<String> {
     }
     kinds.extend([1, 2, 3, 4].map(|row| format!("sensor refused {row}")));
     kinds.extend(altitude_kinds::answers());
+    kinds.extend(antennas_kinds::answers());
     kinds.push("malformed".to_string());
     kinds
 }
@@ -102,7 +104,7 @@ fn for_all() -> Vec<String> {
 pub fn groups(special: &[&'static str]) -> Vec<Group> {
     let of_their_own = ["sensor", "altitude", "write"];
     let with_bytes = [&OF_A_FIELD[..], &OF_A_MESSAGE, &OF_BOTH, &of_their_own].concat();
-    let with_words = [&OF_A_WORD[..], &OF_BOTH, &["sensor"]].concat();
+    let with_words = [&OF_A_WORD[..], &OF_BOTH, &["sensor", "antennas"]].concat();
     let other_address =
         [11, 20, 21].map(|format| [format!("{format} own"), format!("{format} notours")]);
     let others = [SEAL_LOWEST, SEAL_HIGHEST, OWN_LOWEST, OWN_HIGHEST];
@@ -125,6 +127,7 @@ pub fn groups(special: &[&'static str]) -> Vec<Group> {
     ];
     groups.extend(sensor_kinds::groups());
     groups.extend(altitude_kinds::groups());
+    groups.extend(antennas_kinds::groups());
     groups
 }
 
@@ -145,6 +148,8 @@ fn parts(call: &Call) -> (&'static str, Option<&[u8]>, Option<u32>) {
         Call::Sensor(request) => ("sensor", Some(&request.message), Some(request.word)),
         Call::Altitude(bytes) => ("altitude", Some(bytes), None),
         Call::Write(bytes, ..) => ("write", Some(bytes), None),
+        // two byte strings, which `antennas_kinds` counts
+        Call::Antennas(own, ..) => ("antennas", None, Some(*own)),
     }
 }
 
@@ -167,6 +172,7 @@ fn answer_word(judged: &Judged) -> &'static str {
         Some((_, Reply::Said(Altitude::Metric))) => "metric",
         Some((_, Reply::Said(Altitude::Illegal))) => "illegal",
         Some((_, Reply::Written(_))) => "written",
+        Some((_, Reply::Taken(antenna, _))) => antenna.word(),
         Some((_, Reply::NoSuchField)) => "nofield",
         Some((_, Reply::Refused(_))) => "refused",
     }
@@ -206,6 +212,9 @@ pub fn count(tally: &mut Tally, line: &[u8], judged: &Judged, aim: Option<&Aim>)
         sensor_kinds::count(tally, line, request, reply);
     }
     altitude_kinds::count(tally, line, call, reply);
+    if let Call::Antennas(own, upper, lower) = call {
+        antennas_kinds::count(tally, line, *own, [upper, lower], reply);
+    }
     if let Call::Transponder(message, _) = call {
         count_heard(tally, message, reply, answer);
     }
@@ -228,6 +237,7 @@ fn count_field(tally: &mut Tally, name: &str, field: &[u8], reply: &Reply) {
 fn count_word(tally: &mut Tally, name: &str, line: &[u8], word: u32) {
     let place = match name {
         "sensor" => 3,
+        "antennas" => 1,
         _ if OF_A_WORD.contains(&name) => 1,
         _ => 2,
     };

@@ -1,8 +1,10 @@
 //! Lines for `calls`: every call on both lengths, every refusal alone and with
 //! another, interrogations hit by a burst, and malformed lines. Those of the
-//! sensor are made by `sensor_lines`, those of altitudes by `altitude_lines`.
+//! sensor are made by `sensor_lines`, those of altitudes by `altitude_lines`, those
+//! of two antennas by `antennas_lines`.
 
 use crate::altitude_lines;
+use crate::antennas_lines;
 use crate::blocks::{Made, MALFORMED};
 use crate::defects::*;
 use crate::poly::*;
@@ -169,21 +171,21 @@ fn messages(random: &mut Random) -> Vec<Made> {
 }
 
 /// An interrogation that is not refused, sealed for an address.
-fn interrogation(random: &mut Random, length: usize, address: u32) -> Vec<u8> {
+pub fn interrogation(random: &mut Random, length: usize, address: u32) -> Vec<u8> {
     let mut bytes = random.bytes(length);
     bytes[0] = if length == 14 { bytes[0] | 0x80 } else { bytes[0] & 0x7F };
     interrogation_seal(&bytes, address).expect("the first bit is right")
 }
 
 /// The same in a format, of the length that its first bit asks for.
-fn in_format(random: &mut Random, format: u8, address: u32) -> Vec<u8> {
+pub fn in_format(random: &mut Random, format: u8, address: u32) -> Vec<u8> {
     let mut bytes = random.bytes(if format < 16 { 7 } else { 14 });
     bytes[0] = format << 3 | bytes[0] & 7;
     interrogation_seal(&bytes, address).expect("the first bit is right")
 }
 
 /// An address that a transponder may have.
-fn assigned(random: &mut Random) -> u32 {
+pub fn assigned(random: &mut Random) -> u32 {
     loop {
         let address = word_within(random);
         if !unassigned(address) {
@@ -216,31 +218,50 @@ fn heard(random: &mut Random) -> Vec<Made> {
     lines
 }
 
-/// An interrogation sealed for an address, hit by a burst in a window, and given
-/// to that address's transponder.
-fn hit(random: &mut Random, length: usize, window: usize) -> Made {
-    let own = assigned(random);
-    let sent = bits_of_bytes(&interrogation(random, length, own));
-    let ones = random.from_to(1, DEGREE);
-    let burst: Vec<usize> = random.choose(ones, DEGREE).iter().map(|k| window + 1 + k).collect();
-    let bytes = bytes_of_bits(&invert(&sent, &burst));
-    assert_ne!(transponder(&bytes, own), Heard::Own, "no such burst is taken as own");
-    let text = join(&call(random, "transponder", &bytes, own));
-    Made::aimed(text, HIT, format!("{}: {window}", 8 * length), None)
+/// An interrogation sealed for an address, that address, and the interrogation
+/// hit by a burst.
+pub struct Hit {
+    pub own: u32,
+    pub sent: Vec<u8>,
+    pub hit: Vec<u8>,
 }
 
-/// The same in a format, by the one burst of a window behind the format after
-/// which FFFFFF is read.
-fn hit_for_all(random: &mut Random, format: u8) -> Made {
+/// A burst in a window.
+pub fn hit_in(random: &mut Random, length: usize, window: usize) -> Hit {
     let own = assigned(random);
-    let sent = bits_of_bytes(&in_format(random, format, own));
-    let last = sent.len() - DEGREE;
+    let sent = interrogation(random, length, own);
+    let ones = random.from_to(1, DEGREE);
+    let burst: Vec<usize> = random.choose(ones, DEGREE).iter().map(|k| window + 1 + k).collect();
+    let hit = bytes_of_bits(&invert(&bits_of_bytes(&sent), &burst));
+    assert_ne!(transponder(&hit, own), Heard::Own, "no such burst is taken as own");
+    Hit { own, sent, hit }
+}
+
+/// The one burst of a window behind the format after which FFFFFF is read.
+pub fn hit_to_all(random: &mut Random, format: u8) -> Hit {
+    let own = assigned(random);
+    let sent = in_format(random, format, own);
+    let bits = bits_of_bytes(&sent);
+    let last = bits.len() - DEGREE;
     let window = random.from_to(5, last);
     let pattern = (window..last).fold(overlay(own ^ HIGHEST), |pattern, _| step_back(pattern));
     let ones = bits_of_word(pattern, DEGREE);
     let burst: Vec<usize> = (0..DEGREE).filter(|k| ones[*k]).map(|k| window + 1 + k).collect();
-    let bytes = bytes_of_bits(&invert(&sent, &burst));
-    let text = join(&call(random, "transponder", &bytes, own));
+    let hit = bytes_of_bits(&invert(&bits, &burst));
+    Hit { own, sent, hit }
+}
+
+/// An interrogation hit in a window, given to the transponder of its address.
+fn hit(random: &mut Random, length: usize, window: usize) -> Made {
+    let Hit { own, hit, .. } = hit_in(random, length, window);
+    let text = join(&call(random, "transponder", &hit, own));
+    Made::aimed(text, HIT, format!("{}: {window}", 8 * length), None)
+}
+
+/// The same by a burst that makes it one for all.
+fn hit_for_all(random: &mut Random, format: u8) -> Made {
+    let Hit { own, hit, .. } = hit_to_all(random, format);
+    let text = join(&call(random, "transponder", &hit, own));
     let answer = if format == 11 { "allcall" } else { "broadcast" };
     Made::aimed(text, HIT_FOR_ALL, format, Some(answer))
 }
@@ -278,7 +299,7 @@ fn refused_twice(random: &mut Random) -> Vec<Made> {
 }
 
 /// A well-formed line, as columns, that is not refused, of a call other than the
-/// sensor's and those of altitudes.
+/// sensor's and those of altitudes and of two antennas.
 fn well_formed(random: &mut Random) -> Vec<Column> {
     let all = [&OF_A_WORD[..], &OF_A_FIELD, &OF_A_MESSAGE, &OF_BOTH].concat();
     let name = *random.pick(&all);
@@ -291,11 +312,13 @@ fn well_formed(random: &mut Random) -> Vec<Column> {
     call(random, name, &bytes, value)
 }
 
-/// A well-formed line, one time in twelve of the sensor, and one of an altitude.
+/// A well-formed line, one time in twelve of the sensor, one of an altitude and
+/// one of two antennas.
 pub fn any_line(random: &mut Random) -> Vec<u8> {
     match random.below(12) {
         0 => join(&sensor_lines::well_formed(random)),
         1 => join(&altitude_lines::well_formed(random)),
+        2 => join(&antennas_lines::well_formed(random)),
         _ => join(&well_formed(random)),
     }
 }
@@ -354,6 +377,7 @@ pub fn round(random: &mut Random) -> Vec<Made> {
     lines.extend(all_lengths(random));
     lines.extend(sensor_lines::round(random));
     lines.extend(altitude_lines::round(random));
+    lines.extend(antennas_lines::round(random));
     for length in [7, 14] {
         lines.extend(windows(8 * length).map(|window| hit(random, length, window)));
         lines.push(generator_added(random, length));

@@ -8,7 +8,8 @@ use crate::run::{first_difference, run_and_hear, Written};
 use crate::tally::Tally;
 use crate::text::MOST_BYTES;
 use crate::{
-    altitude_lines, calls, calls_kinds, calls_lines, fast_calls, fast_sift, hit_replies, selftest,
+    altitude_lines, antennas_lines, calls, calls_kinds, calls_lines, fast_calls, fast_sift,
+    hit_replies, selftest,
 };
 use crate::{sift, sift_kinds, sift_lines};
 use std::path::Path;
@@ -60,7 +61,9 @@ const SIFT: Subject = Subject {
 const CALLS: Subject = Subject {
     name: "calls",
     any_line: calls_lines::any_line,
-    once: altitude_lines::all,
+    once: |random| {
+        [altitude_lines::all(random), antennas_lines::all(random)].into_iter().flatten().collect()
+    },
     round: calls_lines::round,
     groups: calls_kinds::groups,
     expected: |tally, input, aims| {

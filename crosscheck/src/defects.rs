@@ -21,6 +21,8 @@ pub enum Sort {
     Feet,
     /// The step of an altitude code, decimal.
     Step,
+    /// The level of an antenna, decimal.
+    Level,
 }
 
 /// A column: what it holds, and its text.
@@ -72,9 +74,10 @@ fn in_column(
 }
 
 const HEX: [Sort; 2] = [Sort::Bytes, Sort::Word];
-const UNSIGNED: [Sort; 5] = [Sort::Bytes, Sort::Word, Sort::Limit, Sort::Bit, Sort::Step];
-const NUMBERS: [Sort; 6] =
-    [Sort::Bytes, Sort::Word, Sort::Limit, Sort::Bit, Sort::Step, Sort::Feet];
+const UNSIGNED: [Sort; 6] =
+    [Sort::Bytes, Sort::Word, Sort::Limit, Sort::Bit, Sort::Step, Sort::Level];
+const NUMBERS: [Sort; 7] =
+    [Sort::Bytes, Sort::Word, Sort::Limit, Sort::Bit, Sort::Step, Sort::Level, Sort::Feet];
 
 /// Puts one of these bytes in place of a random one.
 fn replace(text: &mut [u8], random: &mut Random, by: &[u8]) {

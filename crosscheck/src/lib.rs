@@ -14,6 +14,7 @@
 //! - `solve`: which of some remainders add up to a given one;
 //! - `sensor`: windows, density, fits, the sensor's answer;
 //! - `altitude`: altitude codes, read and written;
+//! - `antennas`: the two-antenna transponder;
 //! - `text`: what both programs share of their line formats;
 //! - `sift`, `calls`: what each program prints for a whole input;
 //! - `vectors`: published values that the reference itself has to meet.
@@ -22,10 +23,10 @@
 //! - `random`: a small generator of numbers with a fixed seed;
 //! - `defects`: ways to spoil a well-formed line;
 //! - `blocks`: lines packed into inputs, and inputs of special sizes;
-//! - `sift_lines`, `calls_lines`, `sensor_lines`, `altitude_lines`: the makers of
-//!   lines;
-//! - `tally`, `sift_kinds`, `calls_kinds`, `sensor_kinds`, `altitude_kinds`: what was
-//!   tried, and what must be;
+//! - `sift_lines`, `calls_lines`, `sensor_lines`, `altitude_lines`,
+//!   `antennas_lines`: the makers of lines;
+//! - `tally`, `sift_kinds`, `calls_kinds`, `sensor_kinds`, `altitude_kinds`,
+//!   `antennas_kinds`: what was tried, and what must be;
 //! - `run`: a program as a child process, and the first difference;
 //! - `hit_replies`: sealed replies that a burst has hit, and the built `sift` held
 //!   to what was sent;
@@ -40,6 +41,9 @@
 pub mod altitude;
 pub mod altitude_kinds;
 pub mod altitude_lines;
+pub mod antennas;
+pub mod antennas_kinds;
+pub mod antennas_lines;
 pub mod blocks;
 pub mod calls;
 pub mod calls_kinds;

@@ -1,6 +1,7 @@
 // What a line is answered, and its columns, each with a space in front of it.
 use altitude::Altitude;
 use altitude::Writing;
+use antennas::Antenna;
 use division::Word;
 use encoder::Seal;
 use sensor::Correction;
@@ -111,6 +112,16 @@ fn put_written(answer: Writing, m: &[u8], out: &mut [u8], taken: usize) -> usize
         Writing::Written => put_message(b" written - ", m, out, taken),
         Writing::NoSuchField => put_message(b" nofield - ", m, out, taken),
         Writing::Refused(n) => put_refusal(n, m, out, taken),
+    }
+}
+
+// The answer of two antennas, with the part that is returned.
+pub(crate) fn put_taken(answer: Antenna, part: &[u8], out: &mut [u8], taken: usize) -> usize {
+    match answer {
+        Antenna::Upper => put_message(b" upper - ", part, out, taken),
+        Antenna::Lower => put_message(b" lower - ", part, out, taken),
+        Antenna::Neither => put_message(b" neither - ", part, out, taken),
+        Antenna::Refused(n) => put_refusal(n, part, out, taken),
     }
 }
 

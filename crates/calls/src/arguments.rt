@@ -28,6 +28,14 @@ pub(crate) fn is_limit_text(s: &[u8]) -> bool {
     reading::all_decimal(s)
 }
 
+// 1 to 3 decimal digits, a number of at most 255.
+pub(crate) fn is_level_text(s: &[u8]) -> bool {
+    if s.len() == 0 || 3 < s.len() {
+        return false;
+    }
+    reading::all_decimal(s) && reading::decimal_number(s) <= 255
+}
+
 // An optional `-` and 1 to 7 decimal digits.
 pub(crate) fn is_feet_text(s: &[u8]) -> bool {
     is_step_text(digits_of(s))

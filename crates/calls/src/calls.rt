@@ -6,20 +6,28 @@ use crate::answers::put;
 use crate::arguments::is_bit;
 use crate::arguments::is_bytes;
 use crate::arguments::is_word_text;
+use crate::receiving::receive;
 use crate::sensing::sense;
 use division::Word;
 use reading::after;
 use reading::find;
 
-// Makes the call of a line and appends the columns of its answer to what is taken of the output buffer. The message is
-// what the first argument writes in hexadecimal digits, at most 32 bytes.
+// Makes the call of a line and appends the columns of its answer to what is taken of the output buffer.
 pub(crate) fn answer(line: &[u8], out: &mut [u8], taken: usize) -> usize {
     let end = find(line, b' ');
-    let arguments = after(line, end);
+    if check::same(&line[0..end], b"antennas") {
+        receive(after(line, end), out, taken)
+    } else {
+        answer_one(&line[0..end], after(line, end), out, taken)
+    }
+}
+
+// The call of at most one message, which is what the first argument writes in hexadecimal digits, at most 32 bytes.
+fn answer_one(name: &[u8], arguments: &[u8], out: &mut [u8], taken: usize) -> usize {
     let mut message = [0u8; 32];
     let n = reading::hex_bytes(first_of(arguments), &mut message);
     if n <= 32 {
-        answer_with(&line[0..end], arguments, &mut message[0..n], out, taken)
+        answer_with(name, arguments, &mut message[0..n], out, taken)
     } else {
         taken
     }
