@@ -5,11 +5,11 @@ use mathlib.Core.Bool.{Bool, true, false, not, cond}
 use mathlib.Core.List.{List, []}
 use Prim.Native.Nat.{ℕ, _+_, _-_, _<_, _≤_}
 use native.Mathlib.Nat.{zero-add}
-use lib.Dec.{ltb}
+use lib.Dec.{eqb, ltb}
 use lib.ListN.{length, take}
 use borrow.Author.Tests.{lt-ltb, le-ltb, ltb-true, ltb-false}
 use Rattle.outcome.specs.Outcomes.{Outcome, unless, Unrefused}
-use Rattle.outcome.specs.Outcomes.Outcome.{refusal}
+use Rattle.outcome.specs.Outcomes.Outcome.{refusal, answer}
 use Rattle.outcome.specs.Refusals.{wordTooLarge, ownAddressReserved}
 use Rattle.outcome.proofs.Laws.{never}
 use Rattle.message.specs.Message.{field, isWord}
@@ -99,6 +99,22 @@ case-only false p false q Neither h = refl
 case-only true p t q Neither h = absurd (h .0 refl)
 case-only false p true q Neither h = absurd (h .1 refl)
 case-only s p t q (Refused n) h = absurd h
+
+-- ---- different answers of the code are different answers
+
+-- what an answer was said for
+abbrev unsaid : Outcome → Antenna
+unsaid (refusal n) = Refused n
+unsaid (answer n vs) = cond (eqb n 1) Upper (cond (eqb n 2) Lower Neither)
+
+unsaid-said : (x : Antenna) → unsaid (said x) ≡ x
+unsaid-said Upper = refl
+unsaid-said Lower = refl
+unsaid-said Neither = refl
+unsaid-said (Refused n) = refl
+
+pub said-injective : (x y : Antenna) → said x ≡ said y → x ≡ y
+said-injective x y e = sym (unsaid-said x) ∙ ap unsaid e ∙ unsaid-said y
 
 -- ---- a part from the first byte on starts where its buffer does
 

@@ -26,14 +26,14 @@ use Rattle.transponder.specs.declared.Reception.the-variants as R
 use Rattle.antennas.specs.Antennas.{isTaken, chosen, choiceOf, antennaOf, Part, partOf, said as saidAntenna}
 use Rattle.antennas.specs.declared.Antenna.{Antenna}
 use Rattle.antennas.specs.declared.Antenna.the-variants.{Upper, Lower, Neither, Refused}
-use Rattle.antennas.proofs.Laws.{Case, case, case-only, unrefused-choice}
+use Rattle.antennas.proofs.Laws.{Case, case, case-only, said-injective, unrefused-choice}
 use Rattle.conformance.specs.Refusals.{row, Wrong, handed, outcome, Breaks, SomeBreaks, Applies, RefusedByLowest, UnrefusedWhereNone}
 use Rattle.conformance.specs.Refusals.Part.{message, word, judged, ownAddress}
 use Rattle.conformance.specs.Refusals.Call.{receive, sealInterrogation, takenAntenna}
 use Rattle.conformance.specs.Sealing.{SealedCallIsRead}
 use Rattle.conformance.specs.Accepting.{Due, OursIsDue, OnlyOneIsDue, BurstNeverOwn}
 use Rattle.conformance.specs.Bursts.{Burst}
-use Rattle.conformance.specs.Antennas.{Permitted, Whole, Taken, TakenIsAccepted, RefusedNotTaken, SaysUpper, SaysLower, SaysNeither, SaysRefused, returned, UpperPart, LowerPart, EmptyPart, PartLengths, BurstNeverDisplaces}
+use Rattle.conformance.specs.Antennas.{Permitted, Whole, Taken, TakenIsAccepted, RefusedNotTaken, SaysUpper, SaysLower, SaysNeither, SaysRefused, returned, IsField, Apart, UpperPart, LowerPart, EmptyPart, PartLengths, BurstNeverDisplaces}
 use Rattle.conformance.proofs.Refusals.{refused-by-lowest, unrefused-where-none}
 use Rattle.conformance.proofs.Sealing.{sealed-call-is-read}
 use Rattle.conformance.proofs.Accepting.{ours-is-due, only-one-is-due, burst-never-own}
@@ -227,15 +227,9 @@ pub says-neither : SaysNeither
 unfolding SaysNeither
 says-neither = neither-exactly
 
-refused-so : (x : Antenna) (n : ℕ) → saidAntenna x ≡ refusal n → x ≡ Refused n
-refused-so Upper n e = absurd (refusal-is-no-answer (sym e))
-refused-so Lower n e = absurd (refusal-is-no-answer (sym e))
-refused-so Neither n e = absurd (refusal-is-no-answer (sym e))
-refused-so (Refused k) n e = let same : k ≡ n = cc in ap Refused same
-
 pub says-refused : SaysRefused
 unfolding SaysRefused RefusedByLowest Applies SomeBreaks Breaks handed outcome row Wrong
-says-refused own u p l q n = ((λ e. there (lowest .0 (ap saidAntenna e) .0)), λ h. refused-so _ n (lowest .1 (back h)))
+says-refused own u p l q n = ((λ e. there (lowest .0 (ap saidAntenna e) .0)), λ h. said-injective _ (Refused n) (lowest .1 (back h)))
   where
     Row : ℕ → Type 0
     Row k = Breaks k (word own) ⊎ (Breaks k (ownAddress own) ⊎ ⊥)
@@ -280,85 +274,77 @@ has-bytes m k e = by (field-sizes m k)
     by (inl f) = omega (arith, f, ap length e)
     by (inr f) = omega (arith, f, ap length e)
 
-module _ (own : ℕ) (a : ℕ × ℕ) (u : List ℕ) (p : ℕ) (b : ℕ × ℕ) (l : List ℕ) (q : ℕ) where
+module _ (own : ℕ) (upper : Part) (p : ℕ) (lower : Part) (q : ℕ) where
   answer : Antenna
-  answer = antennaOf own u p l q
+  answer = antennaOf own (upper .1) p (lower .1) q
 
   part : Antenna → Part
-  part x = partOf x (a, u) (b, l)
+  part x = partOf x upper lower
 
-  upper-whole : answer ≡ Upper → Whole u
+  upper-whole : answer ≡ Upper → Whole (upper .1)
   unfolding answer Taken
-  upper-whole e = upper-exactly own u p l q .0 e .1 .0
+  upper-whole e = upper-exactly own (upper .1) p (lower .1) q .0 e .1 .0
 
-  lower-whole : answer ≡ Lower → Whole l
+  lower-whole : answer ≡ Lower → Whole (lower .1)
   unfolding answer Taken
-  lower-whole e = lower-exactly own u p l q .0 e .1 .0
+  lower-whole e = lower-exactly own (upper .1) p (lower .1) q .0 e .1 .0
 
-  upper-part-is : (_≡_ {A = Part} (a, field u) (b, field l) → ⊥) → (answer ≡ Upper) ↔ ((part answer ≡ (a, field u)) × (part answer .1 ≡ [] → ⊥))
-  unfolding part
-  upper-part-is differ = (
-    (λ e. (ap part e, λ f. has-bytes u (upper-whole e) (sym (ap (λ (x : Antenna). part x .1) e) ∙ f))),
-    λ h. by answer (h .0) (h .1),
-  )
-    where
-      by : (x : Antenna) → part x ≡ (a, field u) → (part x .1 ≡ [] → ⊥) → x ≡ Upper
-      by Upper e f = refl
-      by Lower e f = absurd (differ (sym e))
-      by Neither e f = absurd (f refl)
-      by (Refused n) e f = absurd (f refl)
+  upper-field : answer ≡ Upper → IsField (part answer) upper
+  unfolding part IsField
+  upper-field e = (ap part e, λ f. has-bytes (upper .1) (upper-whole e) (sym (ap (λ (x : Antenna). part x .1) e) ∙ f))
 
-  lower-part-is : (_≡_ {A = Part} (a, field u) (b, field l) → ⊥) → (answer ≡ Lower) ↔ ((part answer ≡ (b, field l)) × (part answer .1 ≡ [] → ⊥))
-  unfolding part
-  lower-part-is differ = (
-    (λ e. (ap part e, λ f. has-bytes l (lower-whole e) (sym (ap (λ (x : Antenna). part x .1) e) ∙ f))),
-    λ h. by answer (h .0) (h .1),
-  )
-    where
-      by : (x : Antenna) → part x ≡ (b, field l) → (part x .1 ≡ [] → ⊥) → x ≡ Lower
-      by Upper e f = absurd (differ e)
-      by Lower e f = refl
-      by Neither e f = absurd (f refl)
-      by (Refused n) e f = absurd (f refl)
+  lower-field : answer ≡ Lower → IsField (part answer) lower
+  unfolding part IsField
+  lower-field e = (ap part e, λ f. has-bytes (lower .1) (lower-whole e) (sym (ap (λ (x : Antenna). part x .1) e) ∙ f))
 
-  -- where it has no bytes
-  no-bytes : (x : Antenna) → answer ≡ x → part x .1 ≡ [] → ((x ≡ Neither) ⊎ ((n : ℕ) × (x ≡ Refused n))) × (part x ≡ (a, []))
-  unfolding part
-  no-bytes Upper e f = absurd (has-bytes u (upper-whole e) f)
-  no-bytes Lower e f = absurd (has-bytes l (lower-whole e) f)
-  no-bytes Neither e f = (inl refl, refl)
-  no-bytes (Refused n) e f = (inr (n, refl), refl)
+  field-upper : Apart upper lower → (x : Antenna) → IsField (part x) upper → x ≡ Upper
+  unfolding part IsField Apart
+  field-upper d Upper h = refl
+  field-upper d Lower h = absurd (d (sym (h .0)))
+  field-upper d Neither h = absurd (h .1 refl)
+  field-upper d (Refused n) h = absurd (h .1 refl)
 
-  empty-by : (answer ≡ Neither) ⊎ ((n : ℕ) × (answer ≡ Refused n)) → part answer .1 ≡ []
+  field-lower : Apart upper lower → (x : Antenna) → IsField (part x) lower → x ≡ Lower
+  unfolding part IsField Apart
+  field-lower d Upper h = absurd (d (h .0))
+  field-lower d Lower h = refl
+  field-lower d Neither h = absurd (h .1 refl)
+  field-lower d (Refused n) h = absurd (h .1 refl)
+
+  is-empty : (answer ≡ Neither) ⊎ ((n : ℕ) × (answer ≡ Refused n)) → part answer ≡ (upper .0, [])
   unfolding part
-  empty-by (inl e) = ap (λ (x : Antenna). part x .1) e
-  empty-by (inr (n, e)) = ap (λ (x : Antenna). part x .1) e
+  is-empty (inl e) = ap part e
+  is-empty (inr (n, e)) = ap part e
+
+  no-bytes : (x : Antenna) → answer ≡ x → part x .1 ≡ [] → (x ≡ Neither) ⊎ ((n : ℕ) × (x ≡ Refused n))
+  unfolding part
+  no-bytes Upper e f = absurd (has-bytes (upper .1) (upper-whole e) f)
+  no-bytes Lower e f = absurd (has-bytes (lower .1) (lower-whole e) f)
+  no-bytes Neither e f = inl refl
+  no-bytes (Refused n) e f = inr (n, refl)
 
   sizes : (x : Antenna) → answer ≡ x → (part x .1 ≡ [] → ⊥) → (length (part x .1) ≡ 4) ⊎ (length (part x .1) ≡ 11)
   unfolding part
-  sizes Upper e f = field-sizes u (upper-whole e)
-  sizes Lower e f = field-sizes l (lower-whole e)
+  sizes Upper e f = field-sizes (upper .1) (upper-whole e)
+  sizes Lower e f = field-sizes (lower .1) (lower-whole e)
   sizes Neither e f = absurd (f refl)
   sizes (Refused n) e f = absurd (f refl)
 
 pub upper-part : UpperPart
 unfolding UpperPart returned answer part
-upper-part = upper-part-is
+upper-part own u p l q = (upper-field own u p l q, λ d h. field-upper own u p l q d (antennaOf own (u .1) p (l .1) q) h)
 
 pub lower-part : LowerPart
 unfolding LowerPart returned answer part
-lower-part = lower-part-is
+lower-part own u p l q = (lower-field own u p l q, λ d h. field-lower own u p l q d (antennaOf own (u .1) p (l .1) q) h)
 
 pub empty-part : EmptyPart
 unfolding EmptyPart returned answer part
-empty-part own a u p b l q = (
-  (empty-by own a u p b l q, λ f. no-bytes own a u p b l q (antennaOf own u p l q) refl f .0),
-  λ f. no-bytes own a u p b l q (antennaOf own u p l q) refl f .1,
-)
+empty-part own u p l q = (is-empty own u p l q, λ f. no-bytes own u p l q (antennaOf own (u .1) p (l .1) q) refl f)
 
 pub part-lengths : PartLengths
 unfolding PartLengths returned answer part
-part-lengths own a u p b l q f = sizes own a u p b l q (antennaOf own u p l q) refl f
+part-lengths own u p l q f = sizes own u p l q (antennaOf own (u .1) p (l .1) q) refl f
 
 -- ---- bursts
 

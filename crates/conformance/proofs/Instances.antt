@@ -36,7 +36,7 @@ use Rattle.conformance.specs.Bursts.{Burst}
 use Rattle.conformance.specs.Accepting.{SaysNotOurs, BurstNeverOwn}
 use Rattle.conformance.specs.Correcting.{Judged, IsDense, LowestDense, NoneDense, LowestFit, OnlyChange, AnotherChange, Right, OnlyOneIsRight, OthersLeave, HitReply}
 use Rattle.conformance.specs.Correcting.Right.{clean, dense, noFit, sole, several}
-use Rattle.conformance.specs.Antennas.{Permitted, TakenIsAccepted, SaysUpper, SaysLower, returned, UpperPart, BurstNeverDisplaces}
+use Rattle.conformance.specs.Antennas.{Permitted, TakenIsAccepted, SaysUpper, SaysLower, returned, IsField, Apart, UpperPart, BurstNeverDisplaces}
 use Rattle.conformance.proofs.Refusals.{decision-final}
 use Rattle.conformance.proofs.Sealing.{carries-reply}
 use Rattle.conformance.proofs.Accepting.{says-not-ours, burst-never-own}
@@ -196,10 +196,14 @@ antennas-met : (antennaOf 0x000002 own-call 5 all-call 6 ≡ Lower) × (antennaO
 unfolding own-call all-call polynomial downwards product generator generatorPowers reduce divide quotient remainder parity overlay addressRead number field formatNumber firstBit firstBitAgrees isMessageLength isWord wordBytes withParity interrogationParity interrogationSeal sealOutcome interrogationAfter receptionOf isReserved receptionOutcome antennaOf
 antennas-met = (refl, refl, refl, refl, refl, refl)
 
--- two buffers in two places: the part is the field of the upper one, in its place
-part-met : returned 0x000002 ((0, 0), own-call) 6 ((1, 0), all-call) 6 ≡ ((0, 0), 0x00 ∷ 0x00 ∷ 0x00 ∷ 0x00 ∷ [])
-unfolding UpperPart own-call field
-part-met = upper-part 0x000002 (0, 0) own-call 6 (1, 0) all-call 6 elsewhere .0 (antennas-met .1) .0
+-- two buffers in two places: the part is the field of the upper one, in its place; and from the part the answer follows
+part-met : IsField (returned 0x000002 ((0, 0), own-call) 6 ((1, 0), all-call) 6) ((0, 0), own-call)
+unfolding UpperPart
+part-met = upper-part 0x000002 ((0, 0), own-call) 6 ((1, 0), all-call) 6 .0 (antennas-met .1)
+
+answer-met : antennaOf 0x000002 own-call 6 all-call 6 ≡ Upper
+unfolding UpperPart Apart
+answer-met = upper-part 0x000002 ((0, 0), own-call) 6 ((1, 0), all-call) 6 .1 elsewhere part-met
   where
     elsewhere : _≡_ {A = Part} ((0, 0), field own-call) ((1, 0), field all-call) → ⊥
     elsewhere e = let z : _≡_ {A = ℕ} 0 1 = ap (λ (x : Part). x .0 .0) e in omega arith

@@ -1,6 +1,6 @@
 -- The two-antenna transponder (document 02, Point 5).
 --
--- u and l are the bytes of the upper and of the lower buffer, p and q their levels, a and b where they start.
+-- u and l are the bytes of the upper and of the lower buffer, p and q their levels.
 use Prim.Native.Nat.{ℕ, _≤_, _<_}
 use mathlib.Core.Path.{_≡_}
 use mathlib.Core.Logic.{_↔_, _⊎_}
@@ -74,48 +74,54 @@ SaysRefused =
 
 -- ---- the part
 
--- What is returned for two buffers, with where they start.
+-- What is returned for two buffers, each with where it starts.
 unfoldable pub returned : ℕ → Part → ℕ → Part → ℕ → Part
 returned own upper p lower q = partOf (antennaOf own (upper .1) p (lower .1) q) upper lower
 
--- 'If one is taken, return its field bytes as a part of that caller's buffer': the companion answers upper exactly when the
--- part is the upper buffer's field and has bytes, and lower alike. Two fields of the same bytes in the same place, one buffer
--- given twice, cannot be told apart.
+-- A part is the field of a buffer, in its place, and has bytes.
+unfoldable pub IsField : Part → Part → Type 0
+IsField part buffer = (part ≡ (buffer .0, field (buffer .1))) × (part .1 ≡ [] → ⊥)
+
+-- The fields of two buffers are in two places, or of other bytes. Those of one buffer that is given twice are not.
+unfoldable pub Apart : Part → Part → Type 0
+Apart upper lower = _≡_ {A = Part} (upper .0, field (upper .1)) (lower .0, field (lower .1)) → ⊥
+
+-- 'If one is taken, return its field bytes as a part of that caller's buffer': where the companion answers upper, the part is
+-- the upper buffer's field, and where it is that, the companion answers upper; and the lower alike.
 unfoldable pub UpperPart : Type 0
 UpperPart =
-    (own : ℕ) (a : ℕ × ℕ) (u : List ℕ) (p : ℕ) (b : ℕ × ℕ) (l : List ℕ) (q : ℕ)
-    → (_≡_ {A = Part} (a, field u) (b, field l) → ⊥)
-    → (antennaOf own u p l q ≡ Upper)
-    ↔ ((returned own (a, u) p (b, l) q ≡ (a, field u)) × (returned own (a, u) p (b, l) q .1 ≡ [] → ⊥))
+    (own : ℕ) (upper : Part) (p : ℕ) (lower : Part) (q : ℕ)
+    → (antennaOf own (upper .1) p (lower .1) q ≡ Upper → IsField (returned own upper p lower q) upper)
+    × (Apart upper lower → IsField (returned own upper p lower q) upper → antennaOf own (upper .1) p (lower .1) q ≡ Upper)
 
 unfoldable pub LowerPart : Type 0
 LowerPart =
-    (own : ℕ) (a : ℕ × ℕ) (u : List ℕ) (p : ℕ) (b : ℕ × ℕ) (l : List ℕ) (q : ℕ)
-    → (_≡_ {A = Part} (a, field u) (b, field l) → ⊥)
-    → (antennaOf own u p l q ≡ Lower)
-    ↔ ((returned own (a, u) p (b, l) q ≡ (b, field l)) × (returned own (a, u) p (b, l) q .1 ≡ [] → ⊥))
+    (own : ℕ) (upper : Part) (p : ℕ) (lower : Part) (q : ℕ)
+    → (antennaOf own (upper .1) p (lower .1) q ≡ Lower → IsField (returned own upper p lower q) lower)
+    × (Apart upper lower → IsField (returned own upper p lower q) lower → antennaOf own (upper .1) p (lower .1) q ≡ Lower)
 
--- 'If neither is, return the empty part of the upper buffer'; 'where it refuses, the part is the empty one'. There alone it
--- has no bytes.
+-- 'If neither is, return the empty part of the upper buffer'; 'where it refuses, the part is the empty one'. Nowhere else has
+-- it no bytes.
 unfoldable pub EmptyPart : Type 0
 EmptyPart =
-    (own : ℕ) (a : ℕ × ℕ) (u : List ℕ) (p : ℕ) (b : ℕ × ℕ) (l : List ℕ) (q : ℕ)
-    → (((antennaOf own u p l q ≡ Neither) ⊎ ((n : ℕ) × (antennaOf own u p l q ≡ Refused n)))
-    ↔ (returned own (a, u) p (b, l) q .1 ≡ []))
-    × (returned own (a, u) p (b, l) q .1 ≡ [] → returned own (a, u) p (b, l) q ≡ (a, []))
+    (own : ℕ) (upper : Part) (p : ℕ) (lower : Part) (q : ℕ)
+    → ((antennaOf own (upper .1) p (lower .1) q ≡ Neither) ⊎ ((n : ℕ) × (antennaOf own (upper .1) p (lower .1) q ≡ Refused n))
+    → returned own upper p lower q ≡ (upper .0, []))
+    × (returned own upper p lower q .1 ≡ []
+    → (antennaOf own (upper .1) p (lower .1) q ≡ Neither) ⊎ ((n : ℕ) × (antennaOf own (upper .1) p (lower .1) q ≡ Refused n)))
 
--- The field has 4 bytes or 11.
+-- 'its field bytes': 4 or 11.
 unfoldable pub PartLengths : Type 0
 PartLengths =
-    (own : ℕ) (a : ℕ × ℕ) (u : List ℕ) (p : ℕ) (b : ℕ × ℕ) (l : List ℕ) (q : ℕ)
-    → (returned own (a, u) p (b, l) q .1 ≡ [] → ⊥)
-    → (length (returned own (a, u) p (b, l) q .1) ≡ 4) ⊎ (length (returned own (a, u) p (b, l) q .1) ≡ 11)
+    (own : ℕ) (upper : Part) (p : ℕ) (lower : Part) (q : ℕ)
+    → (returned own upper p lower q .1 ≡ [] → ⊥)
+    → (length (returned own upper p lower q .1) ≡ 4) ⊎ (length (returned own upper p lower q .1) ≡ 11)
 
 -- ---- bursts
 
 -- 'An own interrogation hit by a burst on one antenna therefore never displaces an undamaged one on the other, unless the
 -- burst made it an all-call or a broadcast.' m and n were sealed for the own address, and m's seal was hit; on either antenna,
--- at any levels, n's is the one taken.
+-- at any levels, n's is the one taken, and so its field is returned (`UpperPart`, `LowerPart`).
 unfoldable pub BurstNeverDisplaces : Type 0
 BurstNeverDisplaces =
     (own : ℕ) (m n : List ℕ) (w d p q : ℕ) → Permitted own → Bytes m → Bytes n → sealOutcome m own ≡ done → sealOutcome n own ≡ done
