@@ -12,29 +12,34 @@ use Rattle.outcome.specs.Outcomes.{Outcome, unless, Unrefused}
 use Rattle.outcome.specs.Outcomes.Outcome.{refusal, answer}
 use Rattle.outcome.specs.Refusals.{wordTooLarge, ownAddressReserved}
 use Rattle.outcome.proofs.Laws.{never}
-use Rattle.message.specs.Message.{field, isWord}
-use Rattle.transponder.specs.Receptions.{isReserved, receptionOutcome, said as saidReception}
+use Rattle.message.specs.Message.{isWord}
+use Rattle.message.proofs.Laws.{field-is}
+use Rattle.transponder.specs.Receptions.{isReserved, said as saidReception}
 use Rattle.transponder.specs.declared.Reception.{Reception}
 use Rattle.antennas.specs.Antennas.{isTaken, chosen, choiceOf, antennaOf, said, Part, fieldOf, emptyOf, partOf}
 use Rattle.antennas.specs.declared.Antenna.{Antenna}
 use Rattle.antennas.specs.declared.Antenna.the-variants.{Upper, Lower, Neither, Refused}
 
-module _ (own : ℕ) (upper : List ℕ) (p : ℕ) (lower : List ℕ) (q : ℕ) where
-  -- by the two tests of the own address
-  by-tests : Bool → Bool → Antenna
-  by-tests s t = cond s (cond t (Refused ownAddressReserved) (choiceOf own upper p lower q)) (Refused wordTooLarge)
+-- ---- the answer by the two tests of the own address
 
+then-is : (t : Bool) (x y z : Antenna) → t ≡ true → z ≡ x → z ≡ cond t x y
+then-is t x y z e f = f ∙ sym (ap (λ (t : Bool). cond t x y) e)
+
+else-is : (t : Bool) (x y : Antenna) → t ≡ false → y ≡ cond t x y
+else-is t x y e = sym (ap (λ (t : Bool). cond t x y) e)
+
+module _ (own : ℕ) (upper : List ℕ) (p : ℕ) (lower : List ℕ) (q : ℕ) where
   pub refused-word : isWord own ≡ false → Refused wordTooLarge ≡ antennaOf own upper p lower q
-  unfolding antennaOf by-tests
-  refused-word e = sym (ap (λ (s : Bool). by-tests s (isReserved own)) e)
+  unfolding antennaOf
+  refused-word e = else-is (isWord own) _ (Refused wordTooLarge) e
 
   pub refused-reserved : isWord own ≡ true → isReserved own ≡ true → Refused ownAddressReserved ≡ antennaOf own upper p lower q
-  unfolding antennaOf by-tests
-  refused-reserved e f = sym (ap (λ (s : Bool). by-tests s (isReserved own)) e ∙ ap (by-tests true) f)
+  unfolding antennaOf
+  refused-reserved e f = then-is (isWord own) _ _ _ e (then-is (isReserved own) (Refused ownAddressReserved) _ _ f refl)
 
   pub answered : isWord own ≡ true → isReserved own ≡ false → choiceOf own upper p lower q ≡ antennaOf own upper p lower q
-  unfolding antennaOf by-tests
-  answered e f = sym (ap (λ (s : Bool). by-tests s (isReserved own)) e ∙ ap (by-tests true) f)
+  unfolding antennaOf
+  answered e f = then-is (isWord own) _ _ _ e (else-is (isReserved own) _ (choiceOf own upper p lower q) f)
 
   -- the outcome is a chain of the two tests
   pub said-by-tests : unless (isWord own) wordTooLarge (unless (not (isReserved own)) ownAddressReserved (said (choiceOf own upper p lower q)))
@@ -126,5 +131,4 @@ module _ (b : Part) where
   is-empty = starts []
 
   pub is-field : (n : ℕ) → n ≡ length (b .1) - 3 → _≡_ {A = Part} ((b .0 .0, 0 + b .0 .1), take n (b .1)) (fieldOf b)
-  unfolding field
-  is-field n e = starts (take n (b .1)) ∙ ap (λ (k : ℕ). (b .0, take k (b .1))) e
+  is-field n e = starts (take n (b .1)) ∙ ap (λ (l : List ℕ). (b .0, l)) (ap (λ (k : ℕ). take k (b .1)) e ∙ sym (field-is (b .1)))

@@ -1,13 +1,13 @@
 -- The two-antenna transponder. The idea: a buffer is taken exactly where no row refuses it and one of three answers is due; the
 -- companion's answer is then a choice between two tests, each answer with its condition; and the part is a map of the answer.
-use mathlib.Core.Path.{_≡_, refl, sym, ap, ap₂, _∙_, subst}
+use mathlib.Core.Path.{_≡_, refl, sym, ap, _∙_, subst}
 use mathlib.Core.Bool.{Bool, true, false}
 use mathlib.Core.Logic.{_↔_, _⊎_, inl, inr}
 use mathlib.Core.List.{List, []}
 use Prim.Native.Nat.{ℕ, _≤_, _<_}
 use native.Mathlib.Omega.{arith}
 use lib.Bits.{bitXor}
-use lib.Dec.{eqb, leb, lit<}
+use lib.Dec.{eqb, leb}
 use lib.ListN.{length, getD}
 use borrow.Author.Tests.{eqb-true, eqb-false, leb-true, leb-false}
 use Rattle.outcome.specs.Outcomes.{done, Unrefused}
@@ -23,7 +23,7 @@ use Rattle.encoder.proofs.Laws.{interrogation-after, interrogation-is, sealed-l
 use Rattle.transponder.specs.Receptions.{receptionOutcome, said}
 use Rattle.transponder.specs.declared.Reception.{Reception}
 use Rattle.transponder.specs.declared.Reception.the-variants as R
-use Rattle.antennas.specs.Antennas.{isTaken, chosen, choiceOf, antennaOf, Part, partOf, said as saidAntenna}
+use Rattle.antennas.specs.Antennas.{isTaken, antennaOf, Part, partOf, said as saidAntenna}
 use Rattle.antennas.specs.declared.Antenna.{Antenna}
 use Rattle.antennas.specs.declared.Antenna.the-variants.{Upper, Lower, Neither, Refused}
 use Rattle.antennas.proofs.Laws.{Case, case, case-only, said-injective, unrefused-choice}
@@ -32,7 +32,6 @@ use Rattle.conformance.specs.Refusals.Part.{message, word, judged, ownAd
 use Rattle.conformance.specs.Refusals.Call.{receive, sealInterrogation, takenAntenna}
 use Rattle.conformance.specs.Sealing.{SealedCallIsRead}
 use Rattle.conformance.specs.Accepting.{Due, OursIsDue, OnlyOneIsDue, BurstNeverOwn}
-use Rattle.conformance.specs.Bursts.{Burst}
 use Rattle.conformance.specs.Antennas.{Permitted, Whole, Taken, TakenIsAccepted, RefusedNotTaken, SaysUpper, SaysLower, SaysNeither, SaysRefused, returned, IsField, Apart, UpperPart, LowerPart, EmptyPart, PartLengths, BurstNeverDisplaces}
 use Rattle.conformance.proofs.Refusals.{refused-by-lowest, unrefused-where-none}
 use Rattle.conformance.proofs.Sealing.{sealed-call-is-read}

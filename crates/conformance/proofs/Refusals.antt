@@ -35,7 +35,7 @@ use Rattle.altitude.specs.declared.Writing.the-variants.{Written, NoSuchField}
 use Rattle.altitude.proofs.Laws.{reading-final, left-refused}
 use Rattle.antennas.specs.Antennas.{isTaken, choiceOf, said as saidAntenna}
 use Rattle.antennas.specs.declared.Antenna.{Antenna}
-use Rattle.antennas.specs.declared.Antenna.the-variants.{Upper, Lower, Neither, Refused as TwoRefused}
+use Rattle.antennas.specs.declared.Antenna.the-variants.{Upper, Lower, Neither, Refused as AntennaRefused}
 use Rattle.antennas.proofs.Laws.{Case as AntennaCase, case as antenna-case, said-by-tests}
 use Rattle.conformance.specs.Refusals.{Part, row, Wrong, Call, handed, outcome, lent, after, Breaks, SomeBreaks, Applies, RefusedByLowest, UnrefusedWhereNone, RefusedLeaves}
 use Rattle.conformance.specs.Refusals.Part.{message, field, confidence, word, limit, judged, ownAddress, altitude}
@@ -298,7 +298,7 @@ antenna-final : (s : Bool) (p : ℕ) (t : Bool) (q : ℕ) (x : Antenna) → Ante
 antenna-final s p t q Upper h n e = refusal-is-no-answer (sym e)
 antenna-final s p t q Lower h n e = refusal-is-no-answer (sym e)
 antenna-final s p t q Neither h n e = refusal-is-no-answer (sym e)
-antenna-final s p t q (TwoRefused k) h n e = h
+antenna-final s p t q (AntennaRefused k) h n e = h
 
 is-final : (c : Call) → Unrefused (final c)
 unfolding final

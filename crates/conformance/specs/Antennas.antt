@@ -48,18 +48,20 @@ RefusedNotTaken = (own : ℕ) (m : List ℕ) (n : ℕ) → Permitted own → rec
 
 -- ---- the companion
 
--- 'A companion call with the same inputs answers upper, lower or neither': each exactly when. 'If both are, the higher level
--- wins, and equal levels give the upper.'
+-- 'A companion call with the same inputs answers upper, lower or neither', each exactly when: upper where the upper buffer is
+-- taken, and the lower is not or has no higher level ('equal levels give the upper');
 unfoldable pub SaysUpper : Type 0
 SaysUpper =
     (own : ℕ) (u : List ℕ) (p : ℕ) (l : List ℕ) (q : ℕ)
     → (antennaOf own u p l q ≡ Upper) ↔ (Permitted own × Taken own u × (Taken own l → q ≤ p))
 
+-- lower where the lower buffer is taken, and the upper is not or has a lower level ('the higher level wins');
 unfoldable pub SaysLower : Type 0
 SaysLower =
     (own : ℕ) (u : List ℕ) (p : ℕ) (l : List ℕ) (q : ℕ)
     → (antennaOf own u p l q ≡ Lower) ↔ (Permitted own × Taken own l × (Taken own u → p < q))
 
+-- neither where 'neither is'. Whether a buffer is own, an all-call or a broadcast makes no difference.
 unfoldable pub SaysNeither : Type 0
 SaysNeither =
     (own : ℕ) (u : List ℕ) (p : ℕ) (l : List ℕ) (q : ℕ)
@@ -87,13 +89,14 @@ unfoldable pub Apart : Part → Part → Type 0
 Apart upper lower = _≡_ {A = Part} (upper .0, field (upper .1)) (lower .0, field (lower .1)) → ⊥
 
 -- 'If one is taken, return its field bytes as a part of that caller's buffer': where the companion answers upper, the part is
--- the upper buffer's field, and where it is that, the companion answers upper; and the lower alike.
+-- the upper buffer's field, and where it is that, the companion answers upper.
 unfoldable pub UpperPart : Type 0
 UpperPart =
     (own : ℕ) (upper : Part) (p : ℕ) (lower : Part) (q : ℕ)
     → (antennaOf own (upper .1) p (lower .1) q ≡ Upper → IsField (returned own upper p lower q) upper)
     × (Apart upper lower → IsField (returned own upper p lower q) upper → antennaOf own (upper .1) p (lower .1) q ≡ Upper)
 
+-- The lower alike.
 unfoldable pub LowerPart : Type 0
 LowerPart =
     (own : ℕ) (upper : Part) (p : ℕ) (lower : Part) (q : ℕ)
