@@ -17,6 +17,7 @@
 //! - `antennas`: the two-antenna transponder;
 //! - `text`: what both programs share of their line formats;
 //! - `sift`, `calls`: what each program prints for a whole input;
+//! - `notices`: which changes of few bits, and of two bursts, leave no remainder;
 //! - `vectors`: published values that the reference itself has to meet.
 //!
 //! The comparison:
@@ -55,6 +56,7 @@ pub mod fast_calls;
 pub mod fast_sift;
 pub mod hit_replies;
 pub mod limit;
+pub mod notices;
 pub mod picture;
 pub mod poly;
 pub mod random;

@@ -109,7 +109,7 @@ says-not-ours own m x h = sentence own m h (NotOurs x)
 -- ---- bursts
 
 -- what an 'own' was read as, also without knowing that the call was not refused
-own-read : (own : ℕ) (m : List ℕ) → receptionOutcome own m ≡ said Own → addressRead (number m) ≡ own
+pub own-read : (own : ℕ) (m : List ℕ) → receptionOutcome own m ≡ said Own → addressRead (number m) ≡ own
 unfolding SaysOwn
 own-read own m o = address-law (number m) own (admitted own m unrefused .own-lt) .1 (says-own own m unrefused .0 o)
   where

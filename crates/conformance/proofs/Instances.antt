@@ -76,7 +76,7 @@ long-marks : List ℕ
 long-marks = 0x00 ∷ 0x00 ∷ 0x80 ∷ 0x00 ∷ 0x00 ∷ 0x00 ∷ 0x00 ∷ 0x00 ∷ 0x00 ∷ 0x00 ∷ 0x00 ∷ 0x00 ∷ 0x00 ∷ 0x00 ∷ []
 
 -- every entry is a byte, by a test that the checker computes
-are-bytes : (l : List ℕ) → areBytes l ≡ true → Bytes l
+pub are-bytes : (l : List ℕ) → areBytes l ≡ true → Bytes l
 are-bytes [] e i = lit< tt
 are-bytes (x ∷ l) e zero = ltb-true x 256 (and-eq-true-iff (ltb x 256) (areBytes l) .0 e .0)
 are-bytes (x ∷ l) e (suc i) = are-bytes l (and-eq-true-iff (ltb x 256) (areBytes l) .0 e .1) i

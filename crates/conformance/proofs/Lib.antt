@@ -5,8 +5,10 @@ pub mod Bursts
 pub mod Accepting
 pub mod Right
 pub mod Correcting
+pub mod Noticing
 pub mod Altitudes
 pub mod Antennas
 pub mod Bench
 pub mod Instances
 pub mod AltitudeInstances
+pub mod NoticingInstances

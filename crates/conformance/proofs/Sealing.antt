@@ -53,7 +53,7 @@ interrogation-bits m a i hm ha lo hi = (
 
 -- ---- carrying and reading
 
-remainder-sealed : (m : List ℕ) (s : ℕ) → Message m → s < 2 ^ 24 → remainder (number (withParity m (bitXor (parity (number (field m))) s))) ≡ s
+pub remainder-sealed : (m : List ℕ) (s : ℕ) → Message m → s < 2 ^ 24 → remainder (number (withParity m (bitXor (parity (number (field m))) s))) ≡ s
 unfolding Message
 remainder-sealed m s hm hs =
     ap remainder (sealed-number m (bitXor (parity (number (field m))) s) (message-length-ge (length m) (hm .1)) (reply-lt m s hs))

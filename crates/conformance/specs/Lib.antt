@@ -5,6 +5,7 @@ pub mod Sealing
 pub mod Bursts
 pub mod Accepting
 pub mod Correcting
+pub mod Noticing
 pub mod Altitudes
 pub mod Antennas
 pub mod Bench

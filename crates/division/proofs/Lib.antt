@@ -2,6 +2,7 @@
 pub mod Xor
 pub mod Dividing
 pub mod Shifting
+pub mod Degrees
 pub mod Reading
 pub mod Table
 pub mod Fields

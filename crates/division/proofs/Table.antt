@@ -7,7 +7,7 @@ use native.Mathlib.Nat.{zero-mul}
 use lib.Bits.{bitXor, xor-zero-r}
 use Rattle.division.specs.Polynomial.{downwards}
 use Rattle.division.specs.Division.{generator, reduce, divide, remainder}
-use Rattle.division.proofs.Dividing.{generator-is}
+use Rattle.division.proofs.Dividing.{generator-is, remainder-double}
 
 -- `reduce` where q is the coefficient x^24 of v: most often there is nothing to add
 unfoldable pub reduceBy : ℕ → ℕ → ℕ
@@ -18,6 +18,14 @@ reduceBy-is : (q v : ℕ) → reduceBy q v ≡ bitXor v (q * generator)
 unfolding reduceBy
 reduceBy-is zero v = sym (ap (bitXor v) (zero-mul generator) ∙ xor-zero-r v)
 reduceBy-is (suc q) v = ap (λ (g : ℕ). bitXor v (suc q * g)) (sym generator-is)
+
+-- a remainder times x
+unfoldable pub double : ℕ → ℕ
+double r = reduceBy (r * 2 / 2 ^ 24) (r * 2)
+
+pub double-is : (a : ℕ) → double (remainder a) ≡ remainder (a * 2)
+unfolding double reduce
+double-is a = reduceBy-is (remainder a * 2 / 2 ^ 24) (remainder a * 2) ∙ sym (remainder-double a)
 
 unfoldable pub quickDown : ℕ → ℕ → ℕ
 quickDown = downwards {A = ℕ} 0 (λ r n. let v = r * 2 + n % 2 in reduceBy (v / 2 ^ 24) v)

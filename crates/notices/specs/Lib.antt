@@ -1,0 +1,1 @@
+-- Nothing to believe: the laws of this crate speak of definitions of division and of the kit.
