@@ -22,3 +22,9 @@ ownAddressReserved = 6
 
 abbrev pub altitudeNotInCode : ℕ
 altitudeNotInCode = 7
+
+abbrev pub tableUnsound : ℕ
+tableUnsound = 8
+
+abbrev pub tableFull : ℕ
+tableFull = 9

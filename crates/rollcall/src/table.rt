@@ -1,0 +1,165 @@
+// The functions that touch the records: each reads or writes one, or goes along them.
+ghost use Prim.Native.Nat.{_≤_};
+ghost use mathlib.Core.Path.{_≡_};
+ghost use mathlib.Core.Bool.{true};
+ghost use lib.ListN.{length, set, take};
+ghost use Rattle.rollcall.specs.Table.{recordAt, placeAt, liveIn, inOrder, isSound, freePlace, below};
+ghost use Rattle.rollcall.specs.Calls.{unmarkedAll, recordOf};
+ghost use Rattle.rollcall.specs.Plans.{orderedTo, verdictOf, spotOf, additionOf, rearranged};
+use crate::Plan;
+use crate::Record;
+use crate::Sighting;
+use crate::Spot;
+use crate::places;
+use crate::plans;
+
+pub(crate) fn get(records: &[Record], i: usize) -> Record
+    ensures { λ r. ⌜ r ≡ recordAt (now (records .entry)) i ⌝ }
+{
+    if i < records.len() {
+        return records[i];
+    }
+    plans::blank()
+}
+
+// Past the end nothing is put.
+pub(crate) fn put(records: &mut [Record], i: usize, r: Record)
+    ensures { λ _. ⌜ now (records .exit) ≡ set (now (records .entry)) i r ⌝ }
+{
+    if i < records.len() {
+        records[i] = r;
+    }
+}
+
+// The record that the list names at k.
+fn listed(records: &[Record], places: &[u16], k: usize) -> Record
+    ensures { λ r. ⌜ r ≡ recordAt (now (records .entry)) (placeAt (now (places .entry)) k) ⌝ }
+{
+    let p = places::place_at(places, k);
+    get(records, p)
+}
+
+// ---- along the records
+
+fn live_count(records: &[Record]) -> usize
+    ensures { λ n. ⌜ n ≡ liveIn (now (records .entry)) ⌝ }
+{
+    let mut n: usize = 0;
+    let mut i: usize = 0;
+    while i < records.len() {
+        let r = records[i];
+        n = n + plans::tally(r);
+        i = i + 1;
+    }
+    n
+}
+
+// The lowest place without a live record, or the length.
+pub(crate) fn free_place(records: &[Record]) -> usize
+    ensures { λ p. ⌜ p ≡ freePlace (now (records .entry)) ⌝ }
+{
+    let mut i: usize = 0;
+    while i < records.len() {
+        let r = records[i];
+        if plans::is_free(r) {
+            return i;
+        }
+        i = i + 1;
+    }
+    i
+}
+
+pub(crate) fn unmark_all(records: &mut [Record])
+    ensures { λ _. ⌜ now (records .exit) ≡ unmarkedAll (now (records .entry)) ⌝ }
+{
+    let mut i: usize = 0;
+    while i < records.len() {
+        let r = records[i];
+        records[i] = plans::unmarked(r);
+        i = i + 1;
+    }
+}
+
+// ---- along the list
+
+// How many of the first places by the count are in order.
+fn ordered(records: &[Record], places: &[u16], count: usize) -> usize
+    requires { ⌜ count ≤ length (now places) ⌝ }
+    ensures { λ n. ⌜ n ≡ orderedTo (now (records .entry)) 0 (take count (now (places .entry))) ⌝ }
+{
+    let mut least: usize = 0;
+    let mut i: usize = 0;
+    while i < count {
+        let r = listed(records, places, i);
+        if plans::is_astray(r, least) {
+            return i;
+        }
+        least = plans::after(r);
+        i = i + 1;
+    }
+    i
+}
+
+// Where an address stands among the first places by the count, or is to stand: by halving.
+fn search(records: &[Record], places: &[u16], count: usize, address: u32) -> usize
+    requires { ⌜ (count ≤ length (now places)) × (inOrder (now records) 0 (take count (now places)) ≡ true) ⌝ }
+    ensures { λ n. ⌜ n ≡ below (now (records .entry)) address (take count (now (places .entry))) ⌝ }
+{
+    let mut low: usize = 0;
+    let mut high: usize = count;
+    while low < high {
+        let middle = plans::middle(low, high);
+        let r = listed(records, places, middle);
+        low = plans::lower(r, address, low, middle, high);
+        high = plans::upper(r, address, middle, high);
+    }
+    low
+}
+
+// ---- what a call meets and does
+
+// Rows 3 and 8 of the refusals; 0 where neither applies.
+fn check(records: &[Record], places: &[u16], count: usize, address: u32) -> u32
+    ensures { λ n. ⌜ n ≡ verdictOf (isSound (now (records .entry)) (now (places .entry)) count) address ⌝ }
+{
+    let within = plans::smaller(count, places.len());
+    let ordered = ordered(records, places, within);
+    let live = live_count(records);
+    let right = plans::is_right(records.len(), places.len(), count, live, ordered);
+    plans::verdict(right, address)
+}
+
+pub(crate) fn locate(records: &[Record], places: &[u16], count: usize, address: u32) -> Spot
+    ensures { λ s. ⌜ s ≡ spotOf (now (records .entry)) (now (places .entry)) count address ⌝ }
+{
+    let refusal = check(records, places, count, address);
+    if plans::is_refused(refusal) {
+        return plans::nowhere(refusal, records.len());
+    }
+    let at = search(records, places, count, address);
+    let p = places::place_at(places, at);
+    let r = get(records, p);
+    let present = plans::is_there(at, r, count, address);
+    plans::spot_at(present, at, p, r, records.len())
+}
+
+// What adding or renewing is to change.
+pub(crate) fn planned(records: &[Record], places: &[u16], count: usize, s: Sighting) -> Plan
+    ensures { λ p. ⌜ p ≡ additionOf (spotOf (now (records .entry)) (now (places .entry)) count (s .address)) (freePlace (now (records .entry))) (length (now (records .entry))) count (recordOf s) ⌝ }
+{
+    let address = plans::address_of(s);
+    let spot = locate(records, places, count, address);
+    let free = free_place(records);
+    let r = plans::record_of(s);
+    plans::addition(spot, free, records.len(), count, r)
+}
+
+pub(crate) fn apply(records: &mut [Record], places: &mut [u16], p: Plan)
+    requires { ⌜ ((p .at ≤ p .opened) × (p .opened ≤ length (now places))) × ((p .at ≤ p .closed) × (p .closed ≤ length (now places))) ⌝ }
+    ensures { λ _. ⌜ (now (records .exit) ≡ set (now (records .entry)) (p .place) (p .entry)) × (now (places .exit) ≡ rearranged p (now (places .entry))) ⌝ }
+{
+    let i = plans::place_of(p);
+    let r = plans::entry_of(p);
+    put(records, i, r);
+    places::rearrange(places, p);
+}
