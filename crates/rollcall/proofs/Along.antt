@@ -3,7 +3,7 @@ use mathlib.Core.Path.{_≡_, refl, sym, ap, _∙_, subst}
 use mathlib.Core.Bool.{Bool, true, false, not, cond, _&&_, and-eq-true-iff}
 use mathlib.Core.List.{List, [], _∷_}
 use Prim.Native.Nat.{ℕ, zero, suc, _+_, _-_, _≤_, _<_}
-use native.Mathlib.Nat.{not-suc-le-zero, le-of-suc-le-suc, suc-add, add-assoc}
+use native.Mathlib.Nat.{not-suc-le-zero, le-of-suc-le-suc, suc-add, add-assoc, le-trans}
 use native.Mathlib.Numerals.{add-one}
 use native.Mathlib.Omega.{arith}
 use lib.Dec.{lit≤, ltb, leb}
@@ -119,6 +119,13 @@ ordered-turn rs ps n i least r b h l e f =
     ∙ ap (λ (q : Record). cond (isNext least q) (suc (orderedTo rs (suc (q .address)) (drop (i + 1) (take n ps)))) 0) (sym e)
     ∙ ap (λ (c : Bool). cond c (suc (orderedTo rs (suc (r .address)) (drop (i + 1) (take n ps)))) 0) f
 
+pub ordered-next : (rs : List Record) (ps : List ℕ) (n i least next : ℕ) (r : Record) → i < n → n ≤ length ps → r ≡ recordAt rs (placeAt ps i) → isNext least r ≡ true → next ≡ suc (r .address)
+    → i + orderedTo rs least (drop i (take n ps)) ≡ orderedTo rs 0 (take n ps) → i + 1 + orderedTo rs next (drop (i + 1) (take n ps)) ≡ orderedTo rs 0 (take n ps)
+ordered-next rs ps n i least next r h l e f g inv =
+    let turn : orderedTo rs least (drop i (take n ps)) ≡ suc (orderedTo rs (suc (r .address)) (drop (i + 1) (take n ps))) = ordered-turn rs ps n i least r true h l e f in
+    let same : orderedTo rs next (drop (i + 1) (take n ps)) ≡ orderedTo rs (suc (r .address)) (drop (i + 1) (take n ps)) = ap (λ (k : ℕ). orderedTo rs k (drop (i + 1) (take n ps))) g in
+    omega arith
+
 pub ordered-none : (rs : List Record) (ps : List ℕ) (n i least : ℕ) → n ≤ i → orderedTo rs least (drop i (take n ps)) ≡ 0
 unfolding orderedTo
 ordered-none rs ps n i least h = ap (orderedTo rs least) (rest-none ps n i h)
@@ -158,7 +165,7 @@ from-least rs least (q ∷ qs) (suc k) e h =
     let there : suc (addressAt rs q) ≤ addressAt rs (getD qs k 0) = from-least rs (suc (addressAt rs q)) qs k (order-parts rs least q qs e .1) (le-of-suc-le-suc h) in
     omega arith
 
-below-after : (rs : List Record) (a least : ℕ) (qs : List ℕ) (k : ℕ) → inOrder rs least qs ≡ true → k < length qs → addressAt rs (getD qs k 0) < a → k < below rs a qs
+pub below-after : (rs : List Record) (a least : ℕ) (qs : List ℕ) (k : ℕ) → inOrder rs least qs ≡ true → k < length qs → addressAt rs (getD qs k 0) < a → k < below rs a qs
 unfolding inOrder below
 below-after rs a least [] k e h l = absurd (not-suc-le-zero h)
 below-after rs a least (q ∷ qs) zero e h l = subst (λ (b : Bool). 0 < cond b (suc (below rs a qs)) 0) (sym (lt-ltb _ _ l)) (omega arith)
@@ -169,7 +176,7 @@ below-after rs a least (q ∷ qs) (suc k) e h l =
     let more : k < below rs a qs = below-after rs a (suc (addressAt rs q)) qs k tail (le-of-suc-le-suc h) l in
     subst (λ (b : Bool). suc k < cond b (suc (below rs a qs)) 0) (sym (lt-ltb _ _ low)) (omega arith)
 
-below-before : (rs : List Record) (a : ℕ) (qs : List ℕ) (k : ℕ) → a ≤ addressAt rs (getD qs k 0) → k < length qs → below rs a qs ≤ k
+pub below-before : (rs : List Record) (a : ℕ) (qs : List ℕ) (k : ℕ) → a ≤ addressAt rs (getD qs k 0) → k < length qs → below rs a qs ≤ k
 unfolding below
 below-before rs a [] k l h = absurd (not-suc-le-zero h)
 below-before rs a (q ∷ qs) zero l h = by (ltb (addressAt rs q) a) refl
@@ -191,6 +198,14 @@ below-le rs a (q ∷ qs) = by (ltb (addressAt rs q) a) (below-le rs a qs)
     by : (b : Bool) → below rs a qs ≤ length qs → cond b (suc (below rs a qs)) 0 ≤ suc (length qs)
     by true h = omega arith
     by false h = omega arith
+
+pub below-count : (rs : List Record) (a n : ℕ) (ps : List ℕ) → below rs a (take n ps) ≤ n
+below-count rs a n ps = le-trans (below-le rs a (take n ps)) (length-take-at n ps)
+  where
+    length-take-at : (n : ℕ) (ps : List ℕ) → length (take n ps) ≤ n
+    length-take-at zero ps = omega arith
+    length-take-at (suc n) [] = omega arith
+    length-take-at (suc n) (p ∷ ps) = omega (arith, length-take-at n ps)
 
 -- a turn of the halving keeps the answer between its two ends, which come nearer
 pub halve : (rs : List Record) (ps : List ℕ) (n a low high middle low′ high′ : ℕ) (r : Record)

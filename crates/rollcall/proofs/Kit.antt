@@ -27,6 +27,7 @@ pub use borrow.Fn.Plain.{Known}
 pub use borrow.Fn.Run.{Over}
 pub use borrow.Fn.World.{World}
 pub use borrow.Kind.MutSlice.{pMutS, fix-len}
+pub use borrow.Kind.Bool.{bAt}
 pub use borrow.Kind.Num.{vAt, vLit}
 pub use borrow.Kind.ShrSlice.{pShrS, spares-sslice}
 pub use borrow.Rule.Slice.Mut.{mslice, reads-mslice}

@@ -10,11 +10,7 @@ use crate::Plan;
 pub(crate) fn place_at(places: &[u16], k: usize) -> usize
     ensures { λ p. ⌜ p ≡ placeAt (now (places .entry)) k ⌝ }
 {
-    if k < places.len() {
-        wide(places[k])
-    } else {
-        0
-    }
+    if k < places.len() { wide(places[k]) } else { 0 }
 }
 
 fn wide(p: u16) -> usize

@@ -49,11 +49,7 @@ pub(crate) fn is_free(r: Record) -> bool
 pub(crate) fn tally(r: Record) -> usize
     ensures { λ n. ⌜ n ≡ one (r .live) ⌝ }
 {
-    if r.live {
-        1
-    } else {
-        0
-    }
+    if r.live { 1 } else { 0 }
 }
 
 // ---- the list's order
@@ -77,11 +73,7 @@ pub(crate) fn after(r: Record) -> usize
 pub(crate) fn smaller(m: usize, n: usize) -> usize
     ensures { λ r. ⌜ r ≡ smallerOf m n ⌝ }
 {
-    if m < n {
-        m
-    } else {
-        n
-    }
+    if m < n { m } else { n }
 }
 
 // ---- the check
@@ -99,7 +91,13 @@ fn are_right(records: usize, places: usize) -> bool
 }
 
 // Whether a table is sound, by what was counted.
-pub(crate) fn is_right(records: usize, places: usize, count: usize, live: usize, ordered: usize) -> bool
+pub(crate) fn is_right(
+    records: usize,
+    places: usize,
+    count: usize,
+    live: usize,
+    ordered: usize,
+) -> bool
     ensures { λ b. ⌜ b ≡ isRight records places count live ordered ⌝ }
 {
     are_right(records, places) & ((count <= records) & ((live == count) & (ordered == count)))
@@ -110,11 +108,7 @@ pub(crate) fn verdict(right: bool, address: u32) -> u32
     ensures { λ n. ⌜ n ≡ verdictOf right address ⌝ }
 {
     if message::is_word(address) {
-        if right {
-            0
-        } else {
-            8
-        }
+        if right { 0 } else { 8 }
     } else {
         3
     }
@@ -140,21 +134,13 @@ pub(crate) fn lower(r: Record, address: u32, low: usize, middle: usize, high: us
     requires { ⌜ middle < high ⌝ }
     ensures { λ n. ⌜ n ≡ cond (ltb (r .address) address) (middle + 1) low ⌝ }
 {
-    if r.address < address {
-        middle + 1
-    } else {
-        low
-    }
+    if r.address < address { middle + 1 } else { low }
 }
 
 pub(crate) fn upper(r: Record, address: u32, middle: usize, high: usize) -> usize
     ensures { λ n. ⌜ n ≡ cond (ltb (r .address) address) high middle ⌝ }
 {
-    if r.address < address {
-        high
-    } else {
-        middle
-    }
+    if r.address < address { high } else { middle }
 }
 
 // ---- where an address stands
@@ -284,21 +270,13 @@ pub(crate) fn removal(s: Spot, count: usize) -> Plan
 fn lowered(count: usize) -> usize
     ensures { λ n. ⌜ n ≡ count - 1 ⌝ }
 {
-    if 0 < count {
-        count - 1
-    } else {
-        0
-    }
+    if 0 < count { count - 1 } else { 0 }
 }
 
 fn raised(count: usize) -> usize
     ensures { λ n. ⌜ n ≡ raisedOf count ⌝ }
 {
-    if count < LARGEST {
-        count + 1
-    } else {
-        count
-    }
+    if count < LARGEST { count + 1 } else { count }
 }
 
 pub(crate) fn address_of(s: Sighting) -> u32

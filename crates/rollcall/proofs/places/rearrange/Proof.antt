@@ -21,7 +21,7 @@ same-length : tie.Need-same-length
 same-length c = search needs
 
 returns : tie.Need-returns
-returns c = 
+returns c =
     let p : Plan = c .before .before .before .before .before .before .before .before .before .before .args .p in
     c .before .before .close-up .ensures ∙ ap (λ (ps : List ℕ). closed (p .at) (p .closed - 1 - p .at) ps) (c .before .before .before .before .before .before .open-up .ensures)
 
