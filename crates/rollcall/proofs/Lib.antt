@@ -1,12 +1,4 @@
--- The laws of the roll-call table.
-pub mod Picking
-pub mod Moving
-pub mod Along
-pub mod Counting
-pub mod Soundness
-pub mod Holding
-pub mod Freeing
-pub mod Answering
+-- What the proofs of the functions that are walked share.
 pub mod Types
 pub mod Sigs
 pub mod Kit

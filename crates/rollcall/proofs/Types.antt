@@ -9,16 +9,16 @@ use borrow.Table.OneValue.{One}
 use borrow.Table.Referent.{rtF, fInt}
 use mir.Syntax.{w16}
 use Rattle.walks.proofs.Structs.{copyOf, paramOf, resultOf}
-use Rattle.rollcall.proofs.Record as R
-use Rattle.rollcall.proofs.Record.Laws as R′
-use Rattle.rollcall.proofs.Sighting as S
-use Rattle.rollcall.proofs.Sighting.Laws as S′
-use Rattle.rollcall.proofs.Spot as L
-use Rattle.rollcall.proofs.Spot.Laws as L′
-use Rattle.rollcall.proofs.Plan as P
-use Rattle.rollcall.proofs.Plan.Laws as P′
-use Rattle.rollcall.proofs.Reply as A
-use Rattle.rollcall.proofs.Reply.Laws as A′
+use Rattle.rollcall_table.proofs.Record as R
+use Rattle.rollcall_table.proofs.Record.Laws as R′
+use Rattle.rollcall_table.proofs.Sighting as S
+use Rattle.rollcall_table.proofs.Sighting.Laws as S′
+use Rattle.rollcall_plans.proofs.Spot as L
+use Rattle.rollcall_plans.proofs.Spot.Laws as L′
+use Rattle.rollcall_plans.proofs.Plan as P
+use Rattle.rollcall_plans.proofs.Plan.Laws as P′
+use Rattle.rollcall_plans.proofs.Reply as A
+use Rattle.rollcall_plans.proofs.Reply.Laws as A′
 
 abbrev pub U16 : RattleType
 U16 = rtF (fInt w16)

@@ -2,10 +2,10 @@
 ghost use Prim.Native.Nat.{_+_, _-_, _≤_, _<_};
 ghost use mathlib.Core.Path.{_≡_};
 ghost use lib.ListN.{length};
-ghost use Rattle.rollcall.specs.Table.{placeAt};
-ghost use Rattle.rollcall.specs.Calls.{opened as openedAt, closed as closedAt};
-ghost use Rattle.rollcall.specs.Plans.{rearranged};
-use crate::Plan;
+ghost use Rattle.rollcall_table.specs.Table.{placeAt};
+ghost use Rattle.rollcall_plans.specs.Calls.{opened as openedAt, closed as closedAt};
+ghost use Rattle.rollcall_plans.specs.Plans.{rearranged};
+use rollcall_plans::Plan;
 
 pub(crate) fn place_at(places: &[u16], k: usize) -> usize
     ensures { λ p. ⌜ p ≡ placeAt (now (places .entry)) k ⌝ }

@@ -3,15 +3,16 @@ ghost use Prim.Native.Nat.{_≤_};
 ghost use mathlib.Core.Path.{_≡_};
 ghost use mathlib.Core.Bool.{true};
 ghost use lib.ListN.{length, set, take};
-ghost use Rattle.rollcall.specs.Table.{recordAt, placeAt, liveIn, inOrder, isSound, freePlace, below};
-ghost use Rattle.rollcall.specs.Calls.{unmarkedAll, recordOf};
-ghost use Rattle.rollcall.specs.Plans.{orderedTo, verdictOf, spotOf, additionOf, rearranged};
-use crate::Plan;
-use crate::Record;
-use crate::Sighting;
-use crate::Spot;
+ghost use Rattle.rollcall_table.specs.Table.{recordAt, placeAt, liveIn, inOrder, isSound, freePlace, below};
+ghost use Rattle.rollcall_table.specs.Table.{unmarkedAll, recordOf};
+ghost use Rattle.rollcall_table.specs.Checks.{orderedTo, verdictOf};
+ghost use Rattle.rollcall_plans.specs.Plans.{spotOf, additionOf, rearranged};
+use crate::halving;
 use crate::places;
-use crate::plans;
+use rollcall_plans::Plan;
+use rollcall_plans::Spot;
+use rollcall_table::Record;
+use rollcall_table::Sighting;
 
 pub(crate) fn get(records: &[Record], i: usize) -> Record
     ensures { λ r. ⌜ r ≡ recordAt (now (records .entry)) i ⌝ }
@@ -19,7 +20,7 @@ pub(crate) fn get(records: &[Record], i: usize) -> Record
     if i < records.len() {
         return records[i];
     }
-    plans::blank()
+    rollcall_table::blank()
 }
 
 // Past the end nothing is put.
@@ -48,7 +49,7 @@ fn live_count(records: &[Record]) -> usize
     let mut i: usize = 0;
     while i < records.len() {
         let r = records[i];
-        n = n + plans::tally(r);
+        n = n + rollcall_table::tally(r);
         i = i + 1;
     }
     n
@@ -61,7 +62,7 @@ pub(crate) fn free_place(records: &[Record]) -> usize
     let mut i: usize = 0;
     while i < records.len() {
         let r = records[i];
-        if plans::is_free(r) {
+        if rollcall_table::is_free(r) {
             return i;
         }
         i = i + 1;
@@ -75,7 +76,7 @@ pub(crate) fn unmark_all(records: &mut [Record])
     let mut i: usize = 0;
     while i < records.len() {
         let r = records[i];
-        records[i] = plans::unmarked(r);
+        records[i] = rollcall_table::unmarked(r);
         i = i + 1;
     }
 }
@@ -91,10 +92,10 @@ fn ordered(records: &[Record], places: &[u16], count: usize) -> usize
     let mut i: usize = 0;
     while i < count {
         let r = listed(records, places, i);
-        if plans::is_astray(r, least) {
+        if rollcall_table::is_astray(r, least) {
             return i;
         }
-        least = plans::after(r);
+        least = rollcall_table::after(r);
         i = i + 1;
     }
     i
@@ -108,10 +109,10 @@ fn search(records: &[Record], places: &[u16], count: usize, address: u32) -> usi
     let mut low: usize = 0;
     let mut high: usize = count;
     while low < high {
-        let middle = plans::middle(low, high);
+        let middle = halving::middle(low, high);
         let r = listed(records, places, middle);
-        low = plans::lower(r, address, low, middle, high);
-        high = plans::upper(r, address, middle, high);
+        low = halving::lower(r, address, low, middle, high);
+        high = halving::upper(r, address, middle, high);
     }
     low
 }
@@ -122,44 +123,44 @@ fn search(records: &[Record], places: &[u16], count: usize, address: u32) -> usi
 fn check(records: &[Record], places: &[u16], count: usize, address: u32) -> u32
     ensures { λ n. ⌜ n ≡ verdictOf (isSound (now (records .entry)) (now (places .entry)) count) address ⌝ }
 {
-    let within = plans::smaller(count, places.len());
+    let within = rollcall_table::smaller(count, places.len());
     let ordered = ordered(records, places, within);
     let live = live_count(records);
-    let right = plans::is_right(records.len(), places.len(), count, live, ordered);
-    plans::verdict(right, address)
+    let right = rollcall_table::is_right(records.len(), places.len(), count, live, ordered);
+    rollcall_table::verdict(right, address)
 }
 
 pub(crate) fn locate(records: &[Record], places: &[u16], count: usize, address: u32) -> Spot
     ensures { λ s. ⌜ s ≡ spotOf (now (records .entry)) (now (places .entry)) count address ⌝ }
 {
     let refusal = check(records, places, count, address);
-    if plans::is_refused(refusal) {
-        return plans::nowhere(refusal, records.len());
+    if rollcall_table::is_refused(refusal) {
+        return rollcall_plans::nowhere(refusal, records.len());
     }
     let at = search(records, places, count, address);
     let p = places::place_at(places, at);
     let r = get(records, p);
-    let present = plans::is_there(at, r, count, address);
-    plans::spot_at(present, at, p, r, records.len())
+    let present = rollcall_table::is_there(at, r, count, address);
+    rollcall_plans::spot_at(present, at, p, r, records.len())
 }
 
 // What adding or renewing is to change.
 pub(crate) fn planned(records: &[Record], places: &[u16], count: usize, s: Sighting) -> Plan
     ensures { λ p. ⌜ p ≡ additionOf (spotOf (now (records .entry)) (now (places .entry)) count (s .address)) (freePlace (now (records .entry))) (length (now (records .entry))) count (recordOf s) ⌝ }
 {
-    let address = plans::address_of(s);
+    let address = rollcall_table::address_of(s);
     let spot = locate(records, places, count, address);
     let free = free_place(records);
-    let r = plans::record_of(s);
-    plans::addition(spot, free, records.len(), count, r)
+    let r = rollcall_table::record_of(s);
+    rollcall_plans::addition(spot, free, records.len(), count, r)
 }
 
 pub(crate) fn apply(records: &mut [Record], places: &mut [u16], p: Plan)
     requires { ⌜ ((p .at ≤ p .opened) × (p .opened ≤ length (now places))) × ((p .at ≤ p .closed) × (p .closed ≤ length (now places))) ⌝ }
     ensures { λ _. ⌜ (now (records .exit) ≡ set (now (records .entry)) (p .place) (p .entry)) × (now (places .exit) ≡ rearranged p (now (places .entry))) ⌝ }
 {
-    let i = plans::place_of(p);
-    let r = plans::entry_of(p);
+    let i = rollcall_plans::place_of(p);
+    let r = rollcall_plans::entry_of(p);
     put(records, i, r);
     places::rearrange(places, p);
 }

@@ -3,17 +3,17 @@
 use contract.Running.{tablesOf}
 use mir.Syntax.{tyUnit}
 use denote.Slice.{sliceTy}
-use Rattle.rollcall.specs.Calls.{said}
+use Rattle.rollcall_plans.specs.Calls.{said}
 use Rattle.rollcall.proofs.Types.{Rpl}
-use Rattle.rollcall.proofs.Answering.{add-right}
+use Rattle.rollcall_plans.proofs.Laws.{add-right}
 use Rattle.rollcall.proofs.Kit.{ℕ, _+_, refl, ap, _∙_, List, [], _∷_, _++_, URA, Ty, named, erased, w64, Heap, Tables, Atoms, Given, Lfts, Shares, givenOf, now, tysP, EnvOf, rowsFrom, Δret, leases, tyR, Over, World, fix-len, vAt, spares-sslice, mslice, reads-mslice, reads-sslice, reads-sc, as-is, Cx, sInt, sUnit, lease, dead, any-gone, whole, sc-here, Rec, U16, Sgt, Pln, sgtOne, sgtCopy, plnOne, plnCopy, Code, Me, Knows, gone, used, held, mutTo, immTo, mutA, owedA, leftA, ptrA, owedS, ptrS, sharedA, keeps, _⟫_, free, begins, relends, gathers, reshares, gathersS, unshares, ends, backs, forgets, calls, returns, Walked, rest, Asked, homes, known, by-walk}
 use Rattle.rollcall.proofs.Sigs.{plannedS, applyS, replyS, addS}
 use Rattle.rollcall.proofs.table.planned.Symbol as planned-def
 use Rattle.rollcall.proofs.table.planned.Met as planned-thm
 use Rattle.rollcall.proofs.table.apply.Symbol as apply-def
 use Rattle.rollcall.proofs.table.apply.Met as apply-thm
-use Rattle.rollcall.proofs.plans.reply.Symbol as reply-def
-use Rattle.rollcall.proofs.plans.reply.Met as reply-thm
+use Rattle.rollcall_plans.proofs.reply_of.Symbol as reply-def
+use Rattle.rollcall_plans.proofs.reply_of.Met as reply-thm
 use Rattle.rollcall.proofs.add_or_renew.Key.{name as #add-or-renew}
 use Rattle.rollcall.proofs.add_or_renew.Statement as stated
 use Rattle.rollcall.proofs.add_or_renew.Code as code
@@ -102,6 +102,6 @@ add-or-renew-spec {M} 𝓤 H 𝓜 𝓖 𝓡 =
     let w : World = record { M = M; 𝓤 = 𝓤; H = H; 𝓜 = 𝓜; 𝓖 = 𝓖; 𝓡 = 𝓡 } in
     let planned = known plannedS w code.env planned-def.name planned-def.routine code.calls-rollcall·table·planned (planned-thm.met 𝓤 H 𝓜 𝓖 𝓡) in
     let apply = known applyS w code.env apply-def.name apply-def.routine code.calls-rollcall·table·apply (apply-thm.met 𝓤 H 𝓜 𝓖 𝓡) in
-    let reply = known replyS w code.env reply-def.name reply-def.routine code.calls-rollcall·plans·reply (reply-thm.met 𝓤 H 𝓜 𝓖 𝓡) in
+    let reply = known replyS w code.env reply-def.name reply-def.routine code.calls-rollcall-plans·reply-of (reply-thm.met 𝓤 H 𝓜 𝓖 𝓡) in
     by-walk addS xs (code.function .body) (homes (code.function .locals)) w code.env #add-or-renew (code.unfolded 𝓤 H 𝓜 𝓡)
     (walk 𝓤 H (𝓖 .A) (givenOf 𝓤 H 𝓜 𝓖) (Over 𝓤 H 𝓜 𝓖 𝓡 code.env) planned apply reply) (asked 𝓤 H (𝓖 .A) (givenOf 𝓤 H 𝓜 𝓖) (Over 𝓤 H 𝓜 𝓖 𝓡 code.env) planned apply reply)

@@ -3,18 +3,18 @@
 use contract.Running.{tablesOf}
 use mir.Syntax.{tyUnit}
 use denote.Slice.{sliceTy}
-use Rattle.rollcall.specs.Calls.{said}
-use Rattle.rollcall.proofs.Answering.{clear-refused, clear-done}
+use Rattle.rollcall_plans.specs.Calls.{said}
+use Rattle.rollcall_plans.proofs.Laws.{clear-refused, clear-done}
 use Rattle.rollcall.proofs.Kit.{ℕ, refl, ap, _∙_, List, [], _∷_, URA, Ty, named, erased, w64, tyInt, tyBool, Heap, Tables, Atoms, Given, Lfts, Shares, givenOf, now, Over, World, fix-len, vAt, vLit, mslice, reads-mslice, reads-sc, as-is, sInt, sBool, sUnit, lease, dead, Rec, U16, Knows, gone, used, mutTo, flag, mutS, mutA, owedA, leftA, ptrA, _⟫_, meet, free, branch, begins, relends, gathers, ends, backs, forgets, calls, count, sets, skips, returns, Walked, Asked, homes, known, by-walk}
 use Rattle.rollcall.proofs.Sigs.{areWrongS, refusedS, unmarkAllS, clearedS, clearS}
-use Rattle.rollcall.proofs.plans.are_wrong.Symbol as are-wrong-def
-use Rattle.rollcall.proofs.plans.are_wrong.Met as are-wrong-thm
-use Rattle.rollcall.proofs.plans.refused.Symbol as refused-def
-use Rattle.rollcall.proofs.plans.refused.Met as refused-thm
+use Rattle.rollcall_table.proofs.are_wrong.Symbol as are-wrong-def
+use Rattle.rollcall_table.proofs.are_wrong.Met as are-wrong-thm
+use Rattle.rollcall_plans.proofs.refused.Symbol as refused-def
+use Rattle.rollcall_plans.proofs.refused.Met as refused-thm
 use Rattle.rollcall.proofs.table.unmark_all.Symbol as unmark-all-def
 use Rattle.rollcall.proofs.table.unmark_all.Met as unmark-all-thm
-use Rattle.rollcall.proofs.plans.cleared.Symbol as cleared-def
-use Rattle.rollcall.proofs.plans.cleared.Met as cleared-thm
+use Rattle.rollcall_plans.proofs.cleared.Symbol as cleared-def
+use Rattle.rollcall_plans.proofs.cleared.Met as cleared-thm
 use Rattle.rollcall.proofs.clear.Key.{name as #clear}
 use Rattle.rollcall.proofs.clear.Statement as stated
 use Rattle.rollcall.proofs.clear.Code as code
@@ -74,9 +74,9 @@ pub clear-spec : {M : Type 1} → stated.statement M
 unfolding code.routine tablesOf
 clear-spec {M} 𝓤 H 𝓜 𝓖 𝓡 =
     let w : World = record { M = M; 𝓤 = 𝓤; H = H; 𝓜 = 𝓜; 𝓖 = 𝓖; 𝓡 = 𝓡 } in
-    let are-wrong = known areWrongS w code.env are-wrong-def.name are-wrong-def.routine code.calls-rollcall·plans·are-wrong (are-wrong-thm.met 𝓤 H 𝓜 𝓖 𝓡) in
-    let refused = known refusedS w code.env refused-def.name refused-def.routine code.calls-rollcall·plans·refused (refused-thm.met 𝓤 H 𝓜 𝓖 𝓡) in
+    let are-wrong = known areWrongS w code.env are-wrong-def.name are-wrong-def.routine code.calls-rollcall-table·are-wrong (are-wrong-thm.met 𝓤 H 𝓜 𝓖 𝓡) in
+    let refused = known refusedS w code.env refused-def.name refused-def.routine code.calls-rollcall-plans·refused (refused-thm.met 𝓤 H 𝓜 𝓖 𝓡) in
     let unmark-all = known unmarkAllS w code.env unmark-all-def.name unmark-all-def.routine code.calls-rollcall·table·unmark-all (unmark-all-thm.met 𝓤 H 𝓜 𝓖 𝓡) in
-    let cleared = known clearedS w code.env cleared-def.name cleared-def.routine code.calls-rollcall·plans·cleared (cleared-thm.met 𝓤 H 𝓜 𝓖 𝓡) in
+    let cleared = known clearedS w code.env cleared-def.name cleared-def.routine code.calls-rollcall-plans·cleared (cleared-thm.met 𝓤 H 𝓜 𝓖 𝓡) in
     by-walk clearS xs (code.function .body) (homes (code.function .locals)) w code.env #clear (code.unfolded 𝓤 H 𝓜 𝓡)
     (walk 𝓤 H (𝓖 .A) (givenOf 𝓤 H 𝓜 𝓖) (Over 𝓤 H 𝓜 𝓖 𝓡 code.env) are-wrong refused unmark-all cleared) (asked 𝓤 H (𝓖 .A) (givenOf 𝓤 H 𝓜 𝓖) (Over 𝓤 H 𝓜 𝓖 𝓡 code.env) are-wrong refused unmark-all cleared)

@@ -2,15 +2,15 @@
 -- Assumes nothing.
 use contract.Running.{tablesOf}
 use mir.Syntax.{w32}
-use Rattle.rollcall.specs.declared.Spot.{Spot}
-use Rattle.rollcall.specs.Plans.{foundBy}
-use Rattle.rollcall.proofs.Answering.{found-answer}
+use Rattle.rollcall_plans.specs.declared.Spot.{Spot}
+use Rattle.rollcall_plans.specs.Plans.{foundBy}
+use Rattle.rollcall_plans.proofs.Laws.{found-answer}
 use Rattle.rollcall.proofs.Kit.{ℕ, refl, ap, _∙_, List, [], _∷_, URA, Ty, named, w64, Heap, Tables, Atoms, Given, Lfts, Shares, givenOf, now, Over, World, vAt, spares-sslice, reads-sslice, reads-sc, sInt, Rec, U16, Spt, sptOne, sptCopy, Knows, gone, used, held, immTo, keeps, _⟫_, free, calls, returns, Walked, Asked, homes, known, by-walk}
 use Rattle.rollcall.proofs.Sigs.{locateS, foundS, findS}
 use Rattle.rollcall.proofs.table.locate.Symbol as locate-def
 use Rattle.rollcall.proofs.table.locate.Met as locate-thm
-use Rattle.rollcall.proofs.plans.found.Symbol as found-def
-use Rattle.rollcall.proofs.plans.found.Met as found-thm
+use Rattle.rollcall_plans.proofs.found.Symbol as found-def
+use Rattle.rollcall_plans.proofs.found.Met as found-thm
 use Rattle.rollcall.proofs.find.Key.{name as #find}
 use Rattle.rollcall.proofs.find.Statement as stated
 use Rattle.rollcall.proofs.find.Code as code
@@ -39,6 +39,6 @@ unfolding code.routine tablesOf
 find-spec {M} 𝓤 H 𝓜 𝓖 𝓡 =
     let w : World = record { M = M; 𝓤 = 𝓤; H = H; 𝓜 = 𝓜; 𝓖 = 𝓖; 𝓡 = 𝓡 } in
     let locate = known locateS w code.env locate-def.name locate-def.routine code.calls-rollcall·table·locate (locate-thm.met 𝓤 H 𝓜 𝓖 𝓡) in
-    let found = known foundS w code.env found-def.name found-def.routine code.calls-rollcall·plans·found (found-thm.met 𝓤 H 𝓜 𝓖 𝓡) in
+    let found = known foundS w code.env found-def.name found-def.routine code.calls-rollcall-plans·found (found-thm.met 𝓤 H 𝓜 𝓖 𝓡) in
     by-walk findS xs (code.function .body) (homes (code.function .locals)) w code.env #find (code.unfolded 𝓤 H 𝓜 𝓡)
     (walk 𝓤 H (𝓖 .A) (givenOf 𝓤 H 𝓜 𝓖) (Over 𝓤 H 𝓜 𝓖 𝓡 code.env) locate found) (asked 𝓤 H (𝓖 .A) (givenOf 𝓤 H 𝓜 𝓖) (Over 𝓤 H 𝓜 𝓖 𝓡 code.env) locate found)

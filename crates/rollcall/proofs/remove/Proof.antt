@@ -3,21 +3,21 @@
 use contract.Running.{tablesOf}
 use mir.Syntax.{tyUnit, w32}
 use denote.Slice.{sliceTy}
-use Rattle.rollcall.specs.declared.Spot.{Spot}
-use Rattle.rollcall.specs.Calls.{said}
-use Rattle.rollcall.specs.Plans.{removalOf}
+use Rattle.rollcall_plans.specs.declared.Spot.{Spot}
+use Rattle.rollcall_plans.specs.Calls.{said}
+use Rattle.rollcall_plans.specs.Plans.{removalOf}
 use Rattle.rollcall.proofs.Types.{Rpl}
-use Rattle.rollcall.proofs.Answering.{remove-right}
+use Rattle.rollcall_plans.proofs.Laws.{remove-right}
 use Rattle.rollcall.proofs.Kit.{ℕ, _+_, refl, ap, _∙_, List, [], _∷_, _++_, URA, Ty, named, erased, w64, Heap, Tables, Atoms, Given, Lfts, Shares, givenOf, now, tysP, EnvOf, rowsFrom, Δret, leases, tyR, Over, World, fix-len, vAt, spares-sslice, mslice, reads-mslice, reads-sslice, reads-sc, as-is, Cx, sInt, sUnit, lease, dead, any-gone, whole, sc-here, Rec, U16, Spt, Pln, sptOne, sptCopy, plnOne, plnCopy, Code, Me, Knows, gone, used, held, mutTo, immTo, mutA, owedA, leftA, ptrA, owedS, ptrS, sharedA, keeps, _⟫_, free, begins, relends, gathers, reshares, gathersS, unshares, ends, backs, forgets, calls, returns, Walked, rest, Asked, homes, known, by-walk}
 use Rattle.rollcall.proofs.Sigs.{locateS, removalS, applyS, replyS, removeS}
 use Rattle.rollcall.proofs.table.locate.Symbol as locate-def
 use Rattle.rollcall.proofs.table.locate.Met as locate-thm
-use Rattle.rollcall.proofs.plans.removal.Symbol as removal-def
-use Rattle.rollcall.proofs.plans.removal.Met as removal-thm
+use Rattle.rollcall_plans.proofs.removal.Symbol as removal-def
+use Rattle.rollcall_plans.proofs.removal.Met as removal-thm
 use Rattle.rollcall.proofs.table.apply.Symbol as apply-def
 use Rattle.rollcall.proofs.table.apply.Met as apply-thm
-use Rattle.rollcall.proofs.plans.reply.Symbol as reply-def
-use Rattle.rollcall.proofs.plans.reply.Met as reply-thm
+use Rattle.rollcall_plans.proofs.reply_of.Symbol as reply-def
+use Rattle.rollcall_plans.proofs.reply_of.Met as reply-thm
 use Rattle.rollcall.proofs.remove.Key.{name as #remove}
 use Rattle.rollcall.proofs.remove.Statement as stated
 use Rattle.rollcall.proofs.remove.Code as code
@@ -109,8 +109,8 @@ unfolding code.routine tablesOf
 remove-spec {M} 𝓤 H 𝓜 𝓖 𝓡 =
     let w : World = record { M = M; 𝓤 = 𝓤; H = H; 𝓜 = 𝓜; 𝓖 = 𝓖; 𝓡 = 𝓡 } in
     let locate = known locateS w code.env locate-def.name locate-def.routine code.calls-rollcall·table·locate (locate-thm.met 𝓤 H 𝓜 𝓖 𝓡) in
-    let removal = known removalS w code.env removal-def.name removal-def.routine code.calls-rollcall·plans·removal (removal-thm.met 𝓤 H 𝓜 𝓖 𝓡) in
+    let removal = known removalS w code.env removal-def.name removal-def.routine code.calls-rollcall-plans·removal (removal-thm.met 𝓤 H 𝓜 𝓖 𝓡) in
     let apply = known applyS w code.env apply-def.name apply-def.routine code.calls-rollcall·table·apply (apply-thm.met 𝓤 H 𝓜 𝓖 𝓡) in
-    let reply = known replyS w code.env reply-def.name reply-def.routine code.calls-rollcall·plans·reply (reply-thm.met 𝓤 H 𝓜 𝓖 𝓡) in
+    let reply = known replyS w code.env reply-def.name reply-def.routine code.calls-rollcall-plans·reply-of (reply-thm.met 𝓤 H 𝓜 𝓖 𝓡) in
     by-walk removeS xs (code.function .body) (homes (code.function .locals)) w code.env #remove (code.unfolded 𝓤 H 𝓜 𝓡)
     (walk 𝓤 H (𝓖 .A) (givenOf 𝓤 H 𝓜 𝓖) (Over 𝓤 H 𝓜 𝓖 𝓡 code.env) locate removal apply reply) (asked 𝓤 H (𝓖 .A) (givenOf 𝓤 H 𝓜 𝓖) (Over 𝓤 H 𝓜 𝓖 𝓡 code.env) locate removal apply reply)

@@ -5,8 +5,8 @@ use Prim.Native.Nat.{ℕ, _+_, _-_, _≤_}
 use native.Mathlib.Omega.{arith}
 use lib.ListN.{length, getD, length-set}
 use borrow.Author.Needs.{needs}
-use Rattle.rollcall.specs.Calls.{closed}
-use Rattle.rollcall.proofs.Moving.{close-next, close-end}
+use Rattle.rollcall_plans.specs.Calls.{closed}
+use Rattle.rollcall_plans.proofs.Laws.{close-next, close-end}
 use Rattle.rollcall.proofs.places.close_up.Statement.{statement}
 use Rattle.rollcall.proofs.places.close_up.Tie as tie
 

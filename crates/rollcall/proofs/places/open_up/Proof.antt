@@ -5,8 +5,8 @@ use Prim.Native.Nat.{ℕ, _-_, _≤_}
 use native.Mathlib.Omega.{arith}
 use lib.ListN.{length, length-set}
 use borrow.Author.Needs.{needs}
-use Rattle.rollcall.specs.Calls.{opened}
-use Rattle.rollcall.proofs.Moving.{open-next, open-end}
+use Rattle.rollcall_plans.specs.Calls.{opened}
+use Rattle.rollcall_plans.proofs.Laws.{open-next, open-end}
 use Rattle.rollcall.proofs.places.open_up.Statement.{statement}
 use Rattle.rollcall.proofs.places.open_up.Tie as tie
 

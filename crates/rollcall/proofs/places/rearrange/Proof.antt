@@ -2,8 +2,8 @@
 use mathlib.Core.Path.{ap, _∙_}
 use mathlib.Core.List.{List}
 use Prim.Native.Nat.{ℕ, _-_}
-use Rattle.rollcall.specs.declared.Plan.{Plan}
-use Rattle.rollcall.specs.Calls.{closed}
+use Rattle.rollcall_plans.specs.declared.Plan.{Plan}
+use Rattle.rollcall_plans.specs.Calls.{closed}
 use borrow.Author.Needs.{needs}
 use Rattle.rollcall.proofs.places.rearrange.Statement.{statement}
 use Rattle.rollcall.proofs.places.rearrange.Tie as tie

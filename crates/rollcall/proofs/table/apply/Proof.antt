@@ -4,13 +4,13 @@ use contract.Running.{tablesOf}
 use denote.Slice.{sliceTy}
 use mathlib.Core.List.{_++_}
 use mir.Syntax.{tyUnit}
-use Rattle.rollcall.specs.declared.Record.{Record}
+use Rattle.rollcall_table.specs.declared.Record.{Record}
 use Rattle.rollcall.proofs.Kit.{ℕ, _+_, refl, ap, _∙_, List, [], _∷_, _++_, set, URA, Ty, named, erased, w64, tyInt, Heap, Tables, Atoms, Given, Lfts, Shares, givenOf, now, Over, World, fix-len, vAt, mslice, reads-mslice, reads-sc, as-is, sInt, sUnit, lease, dead, Rec, U16, Pln, recOne, recCopy, plnOne, plnCopy, Knows, gone, used, held, mutTo, mutA, owedA, leftA, ptrA, keeps, _⟫_, free, begins, relends, gathers, ends, backs, forgets, calls, unit, returns, Walked, Asked, homes, known, by-walk}
 use Rattle.rollcall.proofs.Sigs.{placeOfS, entryOfS, putS, rearrangeS, applyS}
-use Rattle.rollcall.proofs.plans.place_of.Symbol as place-of-def
-use Rattle.rollcall.proofs.plans.place_of.Met as place-of-thm
-use Rattle.rollcall.proofs.plans.entry_of.Symbol as entry-of-def
-use Rattle.rollcall.proofs.plans.entry_of.Met as entry-of-thm
+use Rattle.rollcall_plans.proofs.place_of.Symbol as place-of-def
+use Rattle.rollcall_plans.proofs.place_of.Met as place-of-thm
+use Rattle.rollcall_plans.proofs.entry_of.Symbol as entry-of-def
+use Rattle.rollcall_plans.proofs.entry_of.Met as entry-of-thm
 use Rattle.rollcall.proofs.table.put.Symbol as put-def
 use Rattle.rollcall.proofs.table.put.Met as put-thm
 use Rattle.rollcall.proofs.places.rearrange.Symbol as rearrange-def
@@ -79,8 +79,8 @@ pub apply-spec : {M : Type 1} → stated.statement M
 unfolding code.routine tablesOf
 apply-spec {M} 𝓤 H 𝓜 𝓖 𝓡 =
     let w : World = record { M = M; 𝓤 = 𝓤; H = H; 𝓜 = 𝓜; 𝓖 = 𝓖; 𝓡 = 𝓡 } in
-    let place-of = known placeOfS w code.env place-of-def.name place-of-def.routine code.calls-rollcall·plans·place-of (place-of-thm.met 𝓤 H 𝓜 𝓖 𝓡) in
-    let entry-of = known entryOfS w code.env entry-of-def.name entry-of-def.routine code.calls-rollcall·plans·entry-of (entry-of-thm.met 𝓤 H 𝓜 𝓖 𝓡) in
+    let place-of = known placeOfS w code.env place-of-def.name place-of-def.routine code.calls-rollcall-plans·place-of (place-of-thm.met 𝓤 H 𝓜 𝓖 𝓡) in
+    let entry-of = known entryOfS w code.env entry-of-def.name entry-of-def.routine code.calls-rollcall-plans·entry-of (entry-of-thm.met 𝓤 H 𝓜 𝓖 𝓡) in
     let put = known putS w code.env put-def.name put-def.routine code.calls-rollcall·table·put (put-thm.met 𝓤 H 𝓜 𝓖 𝓡) in
     let rearrange = known rearrangeS w code.env rearrange-def.name rearrange-def.routine code.calls-rollcall·places·rearrange (rearrange-thm.met 𝓤 H 𝓜 𝓖 𝓡) in
     by-walk applyS xs (code.function .body) (homes (code.function .locals)) w code.env #apply (code.unfolded 𝓤 H 𝓜 𝓡)

@@ -2,20 +2,20 @@
 -- Assumes nothing.
 use contract.Running.{tablesOf}
 use mir.Syntax.{w32}
-use Rattle.rollcall.specs.Plans.{verdictOf}
-use Rattle.rollcall.proofs.Holding.{smaller-le, right-sound}
+use Rattle.rollcall_table.specs.Checks.{verdictOf}
+use Rattle.rollcall_table.proofs.Laws.{smaller-le, right-sound}
 use Rattle.rollcall.proofs.Kit.{ℕ, refl, ap, _∙_, Bool, List, [], _∷_, length, URA, Ty, named, w64, tyInt, tyBool, Heap, Tables, Atoms, Given, Lfts, Shares, givenOf, now, Over, World, bAt, vAt, spares-sslice, reads-sslice, reads-sc, sInt, sBool, Rec, U16, Knows, gone, used, immTo, immS, _⟫_, free, calls, count, sets, returns, Walked, Asked, homes, known, by-walk}
 use Rattle.rollcall.proofs.Sigs.{smallerS, orderedS, liveCountS, isRightS, verdictS, checkS}
-use Rattle.rollcall.proofs.plans.smaller.Symbol as smaller-def
-use Rattle.rollcall.proofs.plans.smaller.Met as smaller-thm
+use Rattle.rollcall_table.proofs.smaller.Symbol as smaller-def
+use Rattle.rollcall_table.proofs.smaller.Met as smaller-thm
 use Rattle.rollcall.proofs.table.ordered.Symbol as ordered-def
 use Rattle.rollcall.proofs.table.ordered.Met as ordered-thm
 use Rattle.rollcall.proofs.table.live_count.Symbol as live-count-def
 use Rattle.rollcall.proofs.table.live_count.Met as live-count-thm
-use Rattle.rollcall.proofs.plans.is_right.Symbol as is-right-def
-use Rattle.rollcall.proofs.plans.is_right.Met as is-right-thm
-use Rattle.rollcall.proofs.plans.verdict.Symbol as verdict-def
-use Rattle.rollcall.proofs.plans.verdict.Met as verdict-thm
+use Rattle.rollcall_table.proofs.is_right.Symbol as is-right-def
+use Rattle.rollcall_table.proofs.is_right.Met as is-right-thm
+use Rattle.rollcall_table.proofs.verdict.Symbol as verdict-def
+use Rattle.rollcall_table.proofs.verdict.Met as verdict-thm
 use Rattle.rollcall.proofs.table.check.Key.{name as #check}
 use Rattle.rollcall.proofs.table.check.Statement as stated
 use Rattle.rollcall.proofs.table.check.Code as code
@@ -58,10 +58,10 @@ pub check-spec : {M : Type 1} → stated.statement M
 unfolding code.routine tablesOf
 check-spec {M} 𝓤 H 𝓜 𝓖 𝓡 =
     let w : World = record { M = M; 𝓤 = 𝓤; H = H; 𝓜 = 𝓜; 𝓖 = 𝓖; 𝓡 = 𝓡 } in
-    let smaller = known smallerS w code.env smaller-def.name smaller-def.routine code.calls-rollcall·plans·smaller (smaller-thm.met 𝓤 H 𝓜 𝓖 𝓡) in
+    let smaller = known smallerS w code.env smaller-def.name smaller-def.routine code.calls-rollcall-table·smaller (smaller-thm.met 𝓤 H 𝓜 𝓖 𝓡) in
     let ordered = known orderedS w code.env ordered-def.name ordered-def.routine code.calls-rollcall·table·ordered (ordered-thm.met 𝓤 H 𝓜 𝓖 𝓡) in
     let live-count = known liveCountS w code.env live-count-def.name live-count-def.routine code.calls-rollcall·table·live-count (live-count-thm.met 𝓤 H 𝓜 𝓖 𝓡) in
-    let is-right = known isRightS w code.env is-right-def.name is-right-def.routine code.calls-rollcall·plans·is-right (is-right-thm.met 𝓤 H 𝓜 𝓖 𝓡) in
-    let verdict = known verdictS w code.env verdict-def.name verdict-def.routine code.calls-rollcall·plans·verdict (verdict-thm.met 𝓤 H 𝓜 𝓖 𝓡) in
+    let is-right = known isRightS w code.env is-right-def.name is-right-def.routine code.calls-rollcall-table·is-right (is-right-thm.met 𝓤 H 𝓜 𝓖 𝓡) in
+    let verdict = known verdictS w code.env verdict-def.name verdict-def.routine code.calls-rollcall-table·verdict (verdict-thm.met 𝓤 H 𝓜 𝓖 𝓡) in
     by-walk checkS xs (code.function .body) (homes (code.function .locals)) w code.env #check (code.unfolded 𝓤 H 𝓜 𝓡)
     (walk 𝓤 H (𝓖 .A) (givenOf 𝓤 H 𝓜 𝓖) (Over 𝓤 H 𝓜 𝓖 𝓡 code.env) smaller ordered live-count is-right verdict) (asked 𝓤 H (𝓖 .A) (givenOf 𝓤 H 𝓜 𝓖) (Over 𝓤 H 𝓜 𝓖 𝓡 code.env) smaller ordered live-count is-right verdict)

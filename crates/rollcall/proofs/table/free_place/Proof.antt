@@ -5,12 +5,12 @@ use lib.ListN.{drop}
 use native.Mathlib.Nat.{zero-add}
 use native.Mathlib.Omega.{arith}
 use borrow.Author.Tests.{not-true, not-false}
-use Rattle.rollcall.specs.Table.{blank, recordAt, freePlace}
-use Rattle.rollcall.proofs.Along.{free-at, free-past}
+use Rattle.rollcall_table.specs.Table.{blank, recordAt, freePlace}
+use Rattle.rollcall_table.proofs.Laws.{free-at, free-past}
 use Rattle.rollcall.proofs.Kit.{ℕ, _+_, _-_, _≤_, _≡_, refl, sym, _∙_, true, false, List, [], _∷_, _++_, length, URA, Ty, named, w64, tyInt, tyBool, tyPtr, Heap, Tables, Atoms, Given, Lfts, Shares, givenOf, now, scaled-fits, ltb-true, ltb-false, Over, World, as-is, sInt, sBool, sPtr, sc-here, sslice, Rec, recOne, recCopy, Knows, gone, used, held, immTo, n64, flag, immS, keeps, _⟫_, meet, last, free, branch, blocks, loops, leaves, calls, num, lit, count, sets, less, plus, times, points, loads, copies, skips, returns, Walked, Asked, homes, known, by-walk}
 use Rattle.rollcall.proofs.Sigs.{isFreeS, freePlaceS}
-use Rattle.rollcall.proofs.plans.is_free.Symbol as is-free-def
-use Rattle.rollcall.proofs.plans.is_free.Met as is-free-thm
+use Rattle.rollcall_table.proofs.is_free.Symbol as is-free-def
+use Rattle.rollcall_table.proofs.is_free.Met as is-free-thm
 use Rattle.rollcall.proofs.table.free_place.Key.{name as #free-place}
 use Rattle.rollcall.proofs.table.free_place.Statement as stated
 use Rattle.rollcall.proofs.table.free_place.Code as code
@@ -72,6 +72,6 @@ pub free-place-spec : {M : Type 1} → stated.statement M
 unfolding code.routine tablesOf
 free-place-spec {M} 𝓤 H 𝓜 𝓖 𝓡 =
     let w : World = record { M = M; 𝓤 = 𝓤; H = H; 𝓜 = 𝓜; 𝓖 = 𝓖; 𝓡 = 𝓡 } in
-    let is-free = known isFreeS w code.env is-free-def.name is-free-def.routine code.calls-rollcall·plans·is-free (is-free-thm.met 𝓤 H 𝓜 𝓖 𝓡) in
+    let is-free = known isFreeS w code.env is-free-def.name is-free-def.routine code.calls-rollcall-table·is-free (is-free-thm.met 𝓤 H 𝓜 𝓖 𝓡) in
     by-walk freePlaceS xs (code.function .body) (homes (code.function .locals)) w code.env #free-place (code.unfolded 𝓤 H 𝓜 𝓡)
     (walk 𝓤 H (𝓖 .A) (givenOf 𝓤 H 𝓜 𝓖) (Over 𝓤 H 𝓜 𝓖 𝓡 code.env) is-free) (asked 𝓤 H (𝓖 .A) (givenOf 𝓤 H 𝓜 𝓖) (Over 𝓤 H 𝓜 𝓖 𝓡 code.env) is-free)

@@ -2,11 +2,11 @@
 -- Assumes nothing.
 use contract.Running.{tablesOf}
 use lib.ListN.{List·getD-eq-default}
-use Rattle.rollcall.specs.Table.{blank}
+use Rattle.rollcall_table.specs.Table.{blank}
 use Rattle.rollcall.proofs.Kit.{givenOf, Over, ℕ, refl, sym, _∙_, List, [], _∷_, length, URA, Ty, named, w64, tyInt, tyBool, tyPtr, Heap, Tables, Atoms, Given, Lfts, Shares, World, scaled-fits, ltb-true, ltb-false, sslice, as-is, sInt, sBool, sPtr, sc-here, Rec, recOne, recCopy, Knows, gone, used, held, immTo, n64, flag, immS, keeps, _⟫_, meet, free, branch, calls, num, lit, count, sets, less, times, points, loads, copies, skips, returns, Walked, Asked, homes, known, by-walk}
 use Rattle.rollcall.proofs.Sigs.{blankS, getS}
-use Rattle.rollcall.proofs.plans.blank.Symbol as blank-def
-use Rattle.rollcall.proofs.plans.blank.Met as blank-thm
+use Rattle.rollcall_table.proofs.blank.Symbol as blank-def
+use Rattle.rollcall_table.proofs.blank.Met as blank-thm
 use Rattle.rollcall.proofs.table.get.Key.{name as #get}
 use Rattle.rollcall.proofs.table.get.Statement as stated
 use Rattle.rollcall.proofs.table.get.Code as code
@@ -42,6 +42,6 @@ pub get-spec : {M : Type 1} → stated.statement M
 unfolding code.routine tablesOf
 get-spec {M} 𝓤 H 𝓜 𝓖 𝓡 =
     let w : World = record { M = M; 𝓤 = 𝓤; H = H; 𝓜 = 𝓜; 𝓖 = 𝓖; 𝓡 = 𝓡 } in
-    let blank′ = known blankS w code.env blank-def.name blank-def.routine code.calls-rollcall·plans·blank (blank-thm.met 𝓤 H 𝓜 𝓖 𝓡) in
+    let blank′ = known blankS w code.env blank-def.name blank-def.routine code.calls-rollcall-table·blank (blank-thm.met 𝓤 H 𝓜 𝓖 𝓡) in
     by-walk getS xs (code.function .body) (homes (code.function .locals)) w code.env #get (code.unfolded 𝓤 H 𝓜 𝓡)
     (walk 𝓤 H (𝓖 .A) (givenOf 𝓤 H 𝓜 𝓖) (Over 𝓤 H 𝓜 𝓖 𝓡 code.env) blank′) (asked 𝓤 H (𝓖 .A) (givenOf 𝓤 H 𝓜 𝓖) (Over 𝓤 H 𝓜 𝓖 𝓡 code.env) blank′)

@@ -1,7 +1,7 @@
 -- `rollcall::table::listed` meets its contract: a walk of its MIR by the borrow checker's rules.
 -- Assumes nothing.
 use contract.Running.{tablesOf}
-use Rattle.rollcall.specs.Table.{recordAt}
+use Rattle.rollcall_table.specs.Table.{recordAt}
 use Rattle.rollcall.proofs.Kit.{givenOf, Over, World, ℕ, refl, ap, _∙_, List, [], _∷_, URA, Ty, named, w64, tyInt, Heap, Tables, Atoms, Given, Lfts, Shares, vAt, spares-sslice, reads-sslice, reads-sc, sInt, Rec, U16, Knows, gone, used, immTo, _⟫_, free, calls, returns, Walked, Asked, homes, known, by-walk}
 use Rattle.rollcall.proofs.Sigs.{getS, placeAtS, listedS}
 use Rattle.rollcall.proofs.table.get.Symbol as get-def

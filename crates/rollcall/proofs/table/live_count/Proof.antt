@@ -4,12 +4,12 @@ use contract.Running.{tablesOf}
 use lib.ListN.{drop}
 use native.Mathlib.Nat.{zero-add}
 use native.Mathlib.Omega.{arith}
-use Rattle.rollcall.specs.Table.{blank, liveIn}
-use Rattle.rollcall.proofs.Along.{live-turn, live-le, live-past}
+use Rattle.rollcall_table.specs.Table.{blank, liveIn}
+use Rattle.rollcall_table.proofs.Laws.{live-turn, live-le, live-past}
 use Rattle.rollcall.proofs.Kit.{ℕ, _+_, _-_, _≤_, _≡_, refl, List, [], _∷_, _++_, length, URA, Ty, named, w64, tyInt, tyBool, tyPtr, Heap, Tables, Atoms, Given, Lfts, Shares, givenOf, now, scaled-fits, ltb-true, ltb-false, Over, World, as-is, sInt, sBool, sPtr, whole, sc-here, sslice, Rec, recOne, recCopy, Knows, gone, used, held, immTo, n64, flag, immS, keeps, _⟫_, meet, last, free, branch, blocks, loops, leaves, calls, num, lit, count, sets, less, plus, times, points, loads, copies, skips, returns, Walked, Asked, homes, known, by-walk}
 use Rattle.rollcall.proofs.Sigs.{tallyS, liveCountS}
-use Rattle.rollcall.proofs.plans.tally.Symbol as tally-def
-use Rattle.rollcall.proofs.plans.tally.Met as tally-thm
+use Rattle.rollcall_table.proofs.tally.Symbol as tally-def
+use Rattle.rollcall_table.proofs.tally.Met as tally-thm
 use Rattle.rollcall.proofs.table.live_count.Key.{name as #live-count}
 use Rattle.rollcall.proofs.table.live_count.Statement as stated
 use Rattle.rollcall.proofs.table.live_count.Code as code
@@ -72,6 +72,6 @@ pub live-count-spec : {M : Type 1} → stated.statement M
 unfolding code.routine tablesOf
 live-count-spec {M} 𝓤 H 𝓜 𝓖 𝓡 =
     let w : World = record { M = M; 𝓤 = 𝓤; H = H; 𝓜 = 𝓜; 𝓖 = 𝓖; 𝓡 = 𝓡 } in
-    let tally = known tallyS w code.env tally-def.name tally-def.routine code.calls-rollcall·plans·tally (tally-thm.met 𝓤 H 𝓜 𝓖 𝓡) in
+    let tally = known tallyS w code.env tally-def.name tally-def.routine code.calls-rollcall-table·tally (tally-thm.met 𝓤 H 𝓜 𝓖 𝓡) in
     by-walk liveCountS xs (code.function .body) (homes (code.function .locals)) w code.env #live-count (code.unfolded 𝓤 H 𝓜 𝓡)
     (walk 𝓤 H (𝓖 .A) (givenOf 𝓤 H 𝓜 𝓖) (Over 𝓤 H 𝓜 𝓖 𝓡 code.env) tally) (asked 𝓤 H (𝓖 .A) (givenOf 𝓤 H 𝓜 𝓖) (Over 𝓤 H 𝓜 𝓖 𝓡 code.env) tally)

@@ -4,27 +4,28 @@ use contract.Running.{tablesOf}
 use mir.Syntax.{w32}
 use lib.Dec.{eqb}
 use borrow.Author.Tests.{not-true, not-false}
-use Rattle.rollcall.specs.Table.{isSound}
-use Rattle.rollcall.proofs.Soundness.{parts}
-use Rattle.rollcall.proofs.Holding.{unrefused, spot-refused, spot-passed, spot-there}
+use Rattle.rollcall_table.specs.Table.{isSound}
+use Rattle.rollcall_table.proofs.Laws.{parts}
+use Rattle.rollcall_table.proofs.Laws.{unrefused}
+use Rattle.rollcall_plans.proofs.Laws.{spot-refused, spot-passed, spot-there}
 use Rattle.rollcall.proofs.Kit.{ℕ, _+_, _≤_, refl, sym, ap, _∙_, subst, List, [], _∷_, _++_, URA, Ty, named, w64, tyInt, tyBool, Heap, Tables, Atoms, Given, Lfts, Shares, givenOf, now, Over, World, bAt, vAt, spares-sslice, reads-sslice, reads-sc, sInt, sBool, Rec, U16, recOne, recCopy, Knows, gone, used, held, immTo, flag, immS, keeps, _⟫_, meet, free, branch, calls, count, sets, skips, returns, Walked, Asked, homes, known, by-walk}
 use Rattle.rollcall.proofs.Sigs.{checkS, isRefusedS, nowhereS, searchS, placeAtS, getS, isThereS, spotAtS, locateS}
 use Rattle.rollcall.proofs.table.check.Symbol as check-def
 use Rattle.rollcall.proofs.table.check.Met as check-thm
-use Rattle.rollcall.proofs.plans.is_refused.Symbol as is-refused-def
-use Rattle.rollcall.proofs.plans.is_refused.Met as is-refused-thm
-use Rattle.rollcall.proofs.plans.nowhere.Symbol as nowhere-def
-use Rattle.rollcall.proofs.plans.nowhere.Met as nowhere-thm
+use Rattle.rollcall_table.proofs.is_refused.Symbol as is-refused-def
+use Rattle.rollcall_table.proofs.is_refused.Met as is-refused-thm
+use Rattle.rollcall_plans.proofs.nowhere.Symbol as nowhere-def
+use Rattle.rollcall_plans.proofs.nowhere.Met as nowhere-thm
 use Rattle.rollcall.proofs.table.search.Symbol as search-def
 use Rattle.rollcall.proofs.table.search.Met as search-thm
 use Rattle.rollcall.proofs.places.place_at.Symbol as place-at-def
 use Rattle.rollcall.proofs.places.place_at.Met as place-at-thm
 use Rattle.rollcall.proofs.table.get.Symbol as get-def
 use Rattle.rollcall.proofs.table.get.Met as get-thm
-use Rattle.rollcall.proofs.plans.is_there.Symbol as is-there-def
-use Rattle.rollcall.proofs.plans.is_there.Met as is-there-thm
-use Rattle.rollcall.proofs.plans.spot_at.Symbol as spot-at-def
-use Rattle.rollcall.proofs.plans.spot_at.Met as spot-at-thm
+use Rattle.rollcall_table.proofs.is_there.Symbol as is-there-def
+use Rattle.rollcall_table.proofs.is_there.Met as is-there-thm
+use Rattle.rollcall_plans.proofs.spot_at.Symbol as spot-at-def
+use Rattle.rollcall_plans.proofs.spot_at.Met as spot-at-thm
 use Rattle.rollcall.proofs.table.locate.Key.{name as #locate}
 use Rattle.rollcall.proofs.table.locate.Statement as stated
 use Rattle.rollcall.proofs.table.locate.Code as code
@@ -86,12 +87,12 @@ unfolding code.routine tablesOf
 locate-spec {M} 𝓤 H 𝓜 𝓖 𝓡 =
     let w : World = record { M = M; 𝓤 = 𝓤; H = H; 𝓜 = 𝓜; 𝓖 = 𝓖; 𝓡 = 𝓡 } in
     let check = known checkS w code.env check-def.name check-def.routine code.calls-rollcall·table·check (check-thm.met 𝓤 H 𝓜 𝓖 𝓡) in
-    let is-refused = known isRefusedS w code.env is-refused-def.name is-refused-def.routine code.calls-rollcall·plans·is-refused (is-refused-thm.met 𝓤 H 𝓜 𝓖 𝓡) in
-    let nowhere = known nowhereS w code.env nowhere-def.name nowhere-def.routine code.calls-rollcall·plans·nowhere (nowhere-thm.met 𝓤 H 𝓜 𝓖 𝓡) in
+    let is-refused = known isRefusedS w code.env is-refused-def.name is-refused-def.routine code.calls-rollcall-table·is-refused (is-refused-thm.met 𝓤 H 𝓜 𝓖 𝓡) in
+    let nowhere = known nowhereS w code.env nowhere-def.name nowhere-def.routine code.calls-rollcall-plans·nowhere (nowhere-thm.met 𝓤 H 𝓜 𝓖 𝓡) in
     let search = known searchS w code.env search-def.name search-def.routine code.calls-rollcall·table·search (search-thm.met 𝓤 H 𝓜 𝓖 𝓡) in
     let place-at = known placeAtS w code.env place-at-def.name place-at-def.routine code.calls-rollcall·places·place-at (place-at-thm.met 𝓤 H 𝓜 𝓖 𝓡) in
     let get = known getS w code.env get-def.name get-def.routine code.calls-rollcall·table·get (get-thm.met 𝓤 H 𝓜 𝓖 𝓡) in
-    let is-there = known isThereS w code.env is-there-def.name is-there-def.routine code.calls-rollcall·plans·is-there (is-there-thm.met 𝓤 H 𝓜 𝓖 𝓡) in
-    let spot-at = known spotAtS w code.env spot-at-def.name spot-at-def.routine code.calls-rollcall·plans·spot-at (spot-at-thm.met 𝓤 H 𝓜 𝓖 𝓡) in
+    let is-there = known isThereS w code.env is-there-def.name is-there-def.routine code.calls-rollcall-table·is-there (is-there-thm.met 𝓤 H 𝓜 𝓖 𝓡) in
+    let spot-at = known spotAtS w code.env spot-at-def.name spot-at-def.routine code.calls-rollcall-plans·spot-at (spot-at-thm.met 𝓤 H 𝓜 𝓖 𝓡) in
     by-walk locateS xs (code.function .body) (homes (code.function .locals)) w code.env #locate (code.unfolded 𝓤 H 𝓜 𝓡)
     (walk 𝓤 H (𝓖 .A) (givenOf 𝓤 H 𝓜 𝓖) (Over 𝓤 H 𝓜 𝓖 𝓡 code.env) check is-refused nowhere search place-at get is-there spot-at) (asked 𝓤 H (𝓖 .A) (givenOf 𝓤 H 𝓜 𝓖) (Over 𝓤 H 𝓜 𝓖 𝓡 code.env) check is-refused nowhere search place-at get is-there spot-at)

@@ -5,17 +5,17 @@ use lib.ListN.{take, drop}
 use native.Mathlib.Nat.{zero-add}
 use native.Mathlib.Omega.{arith}
 use borrow.Author.Tests.{not-true, not-false}
-use Rattle.rollcall.specs.Table.{isNext}
-use Rattle.rollcall.specs.Plans.{orderedTo}
-use Rattle.rollcall.proofs.Along.{ordered-turn, ordered-next, ordered-none}
+use Rattle.rollcall_table.specs.Table.{isNext}
+use Rattle.rollcall_table.specs.Checks.{orderedTo}
+use Rattle.rollcall_table.proofs.Laws.{ordered-turn, ordered-next, ordered-none}
 use Rattle.rollcall.proofs.Kit.{ℕ, _+_, _-_, _≤_, _≡_, refl, sym, _∙_, false, List, [], _∷_, _++_, URA, Ty, named, w64, tyInt, tyBool, Heap, Tables, Atoms, Given, Lfts, Shares, givenOf, now, ltb-true, ltb-false, Over, World, vAt, spares-sslice, reads-sslice, reads-sc, sInt, sBool, whole, Rec, U16, recOne, recCopy, Knows, gone, used, held, immTo, n64, flag, keeps, _⟫_, meet, last, free, branch, blocks, loops, leaves, before, calls, num, lit, sets, less, plus, skips, returns, Walked, Asked, homes, known, by-walk}
 use Rattle.rollcall.proofs.Sigs.{listedS, isAstrayS, afterS, orderedS}
 use Rattle.rollcall.proofs.table.listed.Symbol as listed-def
 use Rattle.rollcall.proofs.table.listed.Met as listed-thm
-use Rattle.rollcall.proofs.plans.is_astray.Symbol as is-astray-def
-use Rattle.rollcall.proofs.plans.is_astray.Met as is-astray-thm
-use Rattle.rollcall.proofs.plans.after.Symbol as after-def
-use Rattle.rollcall.proofs.plans.after.Met as after-thm
+use Rattle.rollcall_table.proofs.is_astray.Symbol as is-astray-def
+use Rattle.rollcall_table.proofs.is_astray.Met as is-astray-thm
+use Rattle.rollcall_table.proofs.after.Symbol as after-def
+use Rattle.rollcall_table.proofs.after.Met as after-thm
 use Rattle.rollcall.proofs.table.ordered.Key.{name as #ordered}
 use Rattle.rollcall.proofs.table.ordered.Statement as stated
 use Rattle.rollcall.proofs.table.ordered.Code as code
@@ -79,7 +79,7 @@ unfolding code.routine tablesOf
 ordered-spec {M} 𝓤 H 𝓜 𝓖 𝓡 =
     let w : World = record { M = M; 𝓤 = 𝓤; H = H; 𝓜 = 𝓜; 𝓖 = 𝓖; 𝓡 = 𝓡 } in
     let listed = known listedS w code.env listed-def.name listed-def.routine code.calls-rollcall·table·listed (listed-thm.met 𝓤 H 𝓜 𝓖 𝓡) in
-    let is-astray = known isAstrayS w code.env is-astray-def.name is-astray-def.routine code.calls-rollcall·plans·is-astray (is-astray-thm.met 𝓤 H 𝓜 𝓖 𝓡) in
-    let after = known afterS w code.env after-def.name after-def.routine code.calls-rollcall·plans·after (after-thm.met 𝓤 H 𝓜 𝓖 𝓡) in
+    let is-astray = known isAstrayS w code.env is-astray-def.name is-astray-def.routine code.calls-rollcall-table·is-astray (is-astray-thm.met 𝓤 H 𝓜 𝓖 𝓡) in
+    let after = known afterS w code.env after-def.name after-def.routine code.calls-rollcall-table·after (after-thm.met 𝓤 H 𝓜 𝓖 𝓡) in
     by-walk orderedS xs (code.function .body) (homes (code.function .locals)) w code.env #ordered (code.unfolded 𝓤 H 𝓜 𝓡)
     (walk 𝓤 H (𝓖 .A) (givenOf 𝓤 H 𝓜 𝓖) (Over 𝓤 H 𝓜 𝓖 𝓡 code.env) listed is-astray after) (asked 𝓤 H (𝓖 .A) (givenOf 𝓤 H 𝓜 𝓖) (Over 𝓤 H 𝓜 𝓖 𝓡 code.env) listed is-astray after)

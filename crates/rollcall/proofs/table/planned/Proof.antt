@@ -2,22 +2,22 @@
 -- Assumes nothing.
 use contract.Running.{tablesOf}
 use mir.Syntax.{w32}
-use Rattle.rollcall.specs.declared.Record.{Record}
-use Rattle.rollcall.specs.declared.Spot.{Spot}
-use Rattle.rollcall.specs.Table.{freePlace}
-use Rattle.rollcall.specs.Plans.{spotOf, additionOf}
+use Rattle.rollcall_table.specs.declared.Record.{Record}
+use Rattle.rollcall_plans.specs.declared.Spot.{Spot}
+use Rattle.rollcall_table.specs.Table.{freePlace}
+use Rattle.rollcall_plans.specs.Plans.{spotOf, additionOf}
 use Rattle.rollcall.proofs.Kit.{ℕ, _+_, refl, ap, _∙_, List, [], _∷_, _++_, length, URA, Ty, named, w64, tyInt, Heap, Tables, Atoms, Given, Lfts, Shares, givenOf, now, Over, World, vAt, spares-sslice, reads-sslice, reads-sc, sInt, Rec, U16, Sgt, Spt, recOne, recCopy, sgtOne, sgtCopy, sptOne, sptCopy, Knows, gone, used, held, immTo, immS, keeps, _⟫_, free, calls, count, sets, returns, Walked, Asked, homes, known, by-walk}
 use Rattle.rollcall.proofs.Sigs.{addressOfS, locateS, freePlaceS, recordOfS, additionS, plannedS}
-use Rattle.rollcall.proofs.plans.address_of.Symbol as address-of-def
-use Rattle.rollcall.proofs.plans.address_of.Met as address-of-thm
+use Rattle.rollcall_table.proofs.address_of.Symbol as address-of-def
+use Rattle.rollcall_table.proofs.address_of.Met as address-of-thm
 use Rattle.rollcall.proofs.table.locate.Symbol as locate-def
 use Rattle.rollcall.proofs.table.locate.Met as locate-thm
 use Rattle.rollcall.proofs.table.free_place.Symbol as free-place-def
 use Rattle.rollcall.proofs.table.free_place.Met as free-place-thm
-use Rattle.rollcall.proofs.plans.record_of.Symbol as record-of-def
-use Rattle.rollcall.proofs.plans.record_of.Met as record-of-thm
-use Rattle.rollcall.proofs.plans.addition.Symbol as addition-def
-use Rattle.rollcall.proofs.plans.addition.Met as addition-thm
+use Rattle.rollcall_table.proofs.record_of.Symbol as record-of-def
+use Rattle.rollcall_table.proofs.record_of.Met as record-of-thm
+use Rattle.rollcall_plans.proofs.addition.Symbol as addition-def
+use Rattle.rollcall_plans.proofs.addition.Met as addition-thm
 use Rattle.rollcall.proofs.table.planned.Key.{name as #planned}
 use Rattle.rollcall.proofs.table.planned.Statement as stated
 use Rattle.rollcall.proofs.table.planned.Code as code
@@ -65,10 +65,10 @@ pub planned-spec : {M : Type 1} → stated.statement M
 unfolding code.routine tablesOf
 planned-spec {M} 𝓤 H 𝓜 𝓖 𝓡 =
     let w : World = record { M = M; 𝓤 = 𝓤; H = H; 𝓜 = 𝓜; 𝓖 = 𝓖; 𝓡 = 𝓡 } in
-    let address-of = known addressOfS w code.env address-of-def.name address-of-def.routine code.calls-rollcall·plans·address-of (address-of-thm.met 𝓤 H 𝓜 𝓖 𝓡) in
+    let address-of = known addressOfS w code.env address-of-def.name address-of-def.routine code.calls-rollcall-table·address-of (address-of-thm.met 𝓤 H 𝓜 𝓖 𝓡) in
     let locate = known locateS w code.env locate-def.name locate-def.routine code.calls-rollcall·table·locate (locate-thm.met 𝓤 H 𝓜 𝓖 𝓡) in
     let free-place = known freePlaceS w code.env free-place-def.name free-place-def.routine code.calls-rollcall·table·free-place (free-place-thm.met 𝓤 H 𝓜 𝓖 𝓡) in
-    let record-of = known recordOfS w code.env record-of-def.name record-of-def.routine code.calls-rollcall·plans·record-of (record-of-thm.met 𝓤 H 𝓜 𝓖 𝓡) in
-    let addition = known additionS w code.env addition-def.name addition-def.routine code.calls-rollcall·plans·addition (addition-thm.met 𝓤 H 𝓜 𝓖 𝓡) in
+    let record-of = known recordOfS w code.env record-of-def.name record-of-def.routine code.calls-rollcall-table·record-of (record-of-thm.met 𝓤 H 𝓜 𝓖 𝓡) in
+    let addition = known additionS w code.env addition-def.name addition-def.routine code.calls-rollcall-plans·addition (addition-thm.met 𝓤 H 𝓜 𝓖 𝓡) in
     by-walk plannedS xs (code.function .body) (homes (code.function .locals)) w code.env #planned (code.unfolded 𝓤 H 𝓜 𝓡)
     (walk 𝓤 H (𝓖 .A) (givenOf 𝓤 H 𝓜 𝓖) (Over 𝓤 H 𝓜 𝓖 𝓡 code.env) address-of locate free-place record-of addition) (asked 𝓤 H (𝓖 .A) (givenOf 𝓤 H 𝓜 𝓖) (Over 𝓤 H 𝓜 𝓖 𝓡 code.env) address-of locate free-place record-of addition)

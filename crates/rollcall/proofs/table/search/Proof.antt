@@ -3,19 +3,19 @@
 use contract.Running.{tablesOf}
 use lib.ListN.{take}
 use native.Mathlib.Omega.{arith}
-use Rattle.rollcall.specs.Table.{below}
+use Rattle.rollcall_table.specs.Table.{below}
 use mir.Syntax.{w32}
-use Rattle.rollcall.proofs.Along.{below-count, halve}
+use Rattle.rollcall_table.proofs.Laws.{below-count, halve}
 use Rattle.rollcall.proofs.Kit.{ℕ, _+_, _-_, _≤_, refl, List, [], _∷_, _++_, URA, Ty, named, w64, tyInt, tyBool, Heap, Tables, Atoms, Given, Lfts, Shares, givenOf, now, ltb-true, ltb-false, Over, World, vAt, spares-sslice, reads-sslice, reads-sc, sInt, sBool, Rec, U16, recOne, recCopy, Knows, gone, used, held, immTo, n64, flag, keeps, _⟫_, meet, last, free, freeing, branch, blocks, loops, leaves, ends, calls, num, lit, sets, less, skips, returns, Walked, Asked, homes, known, by-walk}
 use Rattle.rollcall.proofs.Sigs.{middleS, listedS, lowerS, upperS, searchS}
-use Rattle.rollcall.proofs.plans.middle.Symbol as middle-def
-use Rattle.rollcall.proofs.plans.middle.Met as middle-thm
+use Rattle.rollcall.proofs.halving.middle.Symbol as middle-def
+use Rattle.rollcall.proofs.halving.middle.Met as middle-thm
 use Rattle.rollcall.proofs.table.listed.Symbol as listed-def
 use Rattle.rollcall.proofs.table.listed.Met as listed-thm
-use Rattle.rollcall.proofs.plans.lower.Symbol as lower-def
-use Rattle.rollcall.proofs.plans.lower.Met as lower-thm
-use Rattle.rollcall.proofs.plans.upper.Symbol as upper-def
-use Rattle.rollcall.proofs.plans.upper.Met as upper-thm
+use Rattle.rollcall.proofs.halving.lower.Symbol as lower-def
+use Rattle.rollcall.proofs.halving.lower.Met as lower-thm
+use Rattle.rollcall.proofs.halving.upper.Symbol as upper-def
+use Rattle.rollcall.proofs.halving.upper.Met as upper-thm
 use Rattle.rollcall.proofs.table.search.Key.{name as #search}
 use Rattle.rollcall.proofs.table.search.Statement as stated
 use Rattle.rollcall.proofs.table.search.Code as code
@@ -75,9 +75,9 @@ pub search-spec : {M : Type 1} → stated.statement M
 unfolding code.routine tablesOf
 search-spec {M} 𝓤 H 𝓜 𝓖 𝓡 =
     let w : World = record { M = M; 𝓤 = 𝓤; H = H; 𝓜 = 𝓜; 𝓖 = 𝓖; 𝓡 = 𝓡 } in
-    let middle = known middleS w code.env middle-def.name middle-def.routine code.calls-rollcall·plans·middle (middle-thm.met 𝓤 H 𝓜 𝓖 𝓡) in
+    let middle = known middleS w code.env middle-def.name middle-def.routine code.calls-rollcall·halving·middle (middle-thm.met 𝓤 H 𝓜 𝓖 𝓡) in
     let listed = known listedS w code.env listed-def.name listed-def.routine code.calls-rollcall·table·listed (listed-thm.met 𝓤 H 𝓜 𝓖 𝓡) in
-    let lower = known lowerS w code.env lower-def.name lower-def.routine code.calls-rollcall·plans·lower (lower-thm.met 𝓤 H 𝓜 𝓖 𝓡) in
-    let upper = known upperS w code.env upper-def.name upper-def.routine code.calls-rollcall·plans·upper (upper-thm.met 𝓤 H 𝓜 𝓖 𝓡) in
+    let lower = known lowerS w code.env lower-def.name lower-def.routine code.calls-rollcall·halving·lower (lower-thm.met 𝓤 H 𝓜 𝓖 𝓡) in
+    let upper = known upperS w code.env upper-def.name upper-def.routine code.calls-rollcall·halving·upper (upper-thm.met 𝓤 H 𝓜 𝓖 𝓡) in
     by-walk searchS xs (code.function .body) (homes (code.function .locals)) w code.env #search (code.unfolded 𝓤 H 𝓜 𝓡)
     (walk 𝓤 H (𝓖 .A) (givenOf 𝓤 H 𝓜 𝓖) (Over 𝓤 H 𝓜 𝓖 𝓡 code.env) middle listed lower upper) (asked 𝓤 H (𝓖 .A) (givenOf 𝓤 H 𝓜 𝓖) (Over 𝓤 H 𝓜 𝓖 𝓡 code.env) middle listed lower upper)

@@ -4,13 +4,13 @@ use contract.Running.{tablesOf}
 use mathlib.Core.List.{_++_}
 use native.Mathlib.Omega.{arith}
 use borrow.Rule.Slice.Mut.{setVals}
-use Rattle.rollcall.specs.declared.Record.{Record}
-use Rattle.rollcall.specs.Table.{blank}
-use Rattle.rollcall.proofs.Along.{unmarkedTo, unmark-turn, unmark-length, unmark-end}
+use Rattle.rollcall_table.specs.declared.Record.{Record}
+use Rattle.rollcall_table.specs.Table.{blank}
+use Rattle.rollcall_table.proofs.Laws.{unmarkedTo, unmark-turn, unmark-length, unmark-end}
 use Rattle.rollcall.proofs.Kit.{ℕ, _+_, _-_, _<_, _≤_, _≡_, refl, ap, _∙_, subst, List, [], _∷_, _++_, length, set, URA, Ty, named, w64, tyInt, tyBool, tyPtr, Heap, Tables, Atoms, Given, Lfts, Shares, givenOf, now, scaled-fits, ltb-true, ltb-false, Over, World, fix-len, mslice, as-is, sInt, sBool, sPtr, sc-here, Rec, recOne, recCopy, Knows, gone, used, held, mutTo, n64, flag, mutS, keeps, _⟫_, meet, last, free, branch, blocks, loops, leaves, calls, num, lit, count, sets, less, plus, times, points, stores, loadsM, copies, unit, skips, returns, Walked, Asked, homes, known, by-walk}
 use Rattle.rollcall.proofs.Sigs.{unmarkedS, unmarkAllS}
-use Rattle.rollcall.proofs.plans.unmarked.Symbol as unmarked-def
-use Rattle.rollcall.proofs.plans.unmarked.Met as unmarked-thm
+use Rattle.rollcall_table.proofs.unmarked.Symbol as unmarked-def
+use Rattle.rollcall_table.proofs.unmarked.Met as unmarked-thm
 use Rattle.rollcall.proofs.table.unmark_all.Key.{name as #unmark-all}
 use Rattle.rollcall.proofs.table.unmark_all.Statement as stated
 use Rattle.rollcall.proofs.table.unmark_all.Code as code
@@ -85,6 +85,6 @@ pub unmark-all-spec : {M : Type 1} → stated.statement M
 unfolding code.routine tablesOf
 unmark-all-spec {M} 𝓤 H 𝓜 𝓖 𝓡 =
     let w : World = record { M = M; 𝓤 = 𝓤; H = H; 𝓜 = 𝓜; 𝓖 = 𝓖; 𝓡 = 𝓡 } in
-    let unmarked = known unmarkedS w code.env unmarked-def.name unmarked-def.routine code.calls-rollcall·plans·unmarked (unmarked-thm.met 𝓤 H 𝓜 𝓖 𝓡) in
+    let unmarked = known unmarkedS w code.env unmarked-def.name unmarked-def.routine code.calls-rollcall-table·unmarked (unmarked-thm.met 𝓤 H 𝓜 𝓖 𝓡) in
     by-walk unmarkAllS xs (code.function .body) (homes (code.function .locals)) w code.env #unmark-all (code.unfolded 𝓤 H 𝓜 𝓡)
     (walk 𝓤 H (𝓖 .A) (givenOf 𝓤 H 𝓜 𝓖) (Over 𝓤 H 𝓜 𝓖 𝓡 code.env) unmarked) (asked 𝓤 H (𝓖 .A) (givenOf 𝓤 H 𝓜 𝓖) (Over 𝓤 H 𝓜 𝓖 𝓡 code.env) unmarked)

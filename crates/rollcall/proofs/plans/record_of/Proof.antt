@@ -1,9 +1,0 @@
--- `rollcall::plans::record_of` meets its contract.
-use Rattle.rollcall.proofs.plans.record_of.Statement.{statement}
-use Rattle.rollcall.proofs.plans.record_of.Tie as tie
-
-returns : tie.Need-returns
-returns c = cc
-
-pub record-of-spec : {M : Type 1} → statement M
-record-of-spec = tie.close (tie.spec returns)

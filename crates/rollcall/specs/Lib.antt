@@ -1,5 +1,0 @@
--- What a reader must believe of the roll-call table.
-pub mod Table
-pub mod Calls
--- ---- what only private functions cite
-pub mod Plans

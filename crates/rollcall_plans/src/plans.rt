@@ -1,0 +1,193 @@
+// What is decided about a call, by value.
+ghost use mathlib.Core.Path.{_≡_};
+ghost use Rattle.rollcall_plans.specs.Plans.{nowhereOf, spotAt, idleOf, foundBy, removalOf, renewalOf, entranceOf, additionOf};
+use crate::Plan;
+use crate::Reply;
+use crate::Rolled;
+use crate::Spot;
+use rollcall_table::Record;
+use rollcall_table::blank;
+use rollcall_table::lowered;
+use rollcall_table::raised;
+use rollcall_table::unmarked;
+
+pub fn nowhere(refusal: u32, length: usize) -> Spot
+    ensures { λ s. ⌜ s ≡ nowhereOf refusal length ⌝ }
+{
+    Spot {
+        refusal: refusal,
+        present: false,
+        at: 0,
+        place: length,
+        entry: blank(),
+    }
+}
+
+pub fn spot_at(present: bool, at: usize, place: usize, r: Record, length: usize) -> Spot
+    ensures { λ s. ⌜ s ≡ spotAt present at place r length ⌝ }
+{
+    if present {
+        Spot {
+            refusal: 0,
+            present: true,
+            at: at,
+            place: place,
+            entry: r,
+        }
+    } else {
+        Spot {
+            refusal: 0,
+            present: false,
+            at: at,
+            place: length,
+            entry: blank(),
+        }
+    }
+}
+
+pub fn refused(refusal: u32, count: usize) -> Reply
+    ensures { λ r. ⌜ (r .answer ≡ Rolled.Refused refusal) × (r .count ≡ count) ⌝ }
+{
+    Reply {
+        answer: Rolled::Refused(refusal),
+        count: count,
+    }
+}
+
+pub fn cleared() -> Reply
+    ensures { λ r. ⌜ (r .answer ≡ Rolled.Cleared) × (r .count ≡ 0) ⌝ }
+{
+    Reply {
+        answer: Rolled::Cleared,
+        count: 0,
+    }
+}
+
+pub fn found(s: Spot, count: usize) -> Reply
+    ensures { λ r. ⌜ (r .answer ≡ foundBy s) × (r .count ≡ count) ⌝ }
+{
+    Reply {
+        answer: found_by(s),
+        count: count,
+    }
+}
+
+fn found_by(s: Spot) -> Rolled
+    ensures { λ r. ⌜ r ≡ foundBy s ⌝ }
+{
+    if s.refusal == 0 {
+        if s.present {
+            let entry = s.entry;
+            Rolled::Found(entry)
+        } else {
+            Rolled::Absent
+        }
+    } else {
+        Rolled::Refused(s.refusal)
+    }
+}
+
+fn idle(answer: Rolled, count: usize, length: usize) -> Plan
+    ensures { λ p. ⌜ p ≡ idleOf answer count length ⌝ }
+{
+    Plan {
+        answer: answer,
+        count: count,
+        place: length,
+        entry: blank(),
+        at: 0,
+        opened: 0,
+        closed: 0,
+    }
+}
+
+pub fn removal(s: Spot, count: usize) -> Plan
+    ensures { λ p. ⌜ p ≡ removalOf s count ⌝ }
+{
+    if s.refusal == 0 {
+        if s.present {
+            let entry = s.entry;
+            Plan {
+                answer: Rolled::Removed,
+                count: lowered(count),
+                place: s.place,
+                entry: unmarked(entry),
+                at: s.at,
+                opened: s.at,
+                closed: count,
+            }
+        } else {
+            idle(Rolled::Absent, count, s.place)
+        }
+    } else {
+        idle(Rolled::Refused(s.refusal), count, s.place)
+    }
+}
+
+pub fn addition(s: Spot, free: usize, length: usize, count: usize, r: Record) -> Plan
+    ensures { λ p. ⌜ p ≡ additionOf s free length count r ⌝ }
+{
+    if s.refusal == 0 {
+        if s.present {
+            renewal(s.place, count, r)
+        } else {
+            entrance(s.at, free, length, count, r)
+        }
+    } else {
+        idle(Rolled::Refused(s.refusal), count, length)
+    }
+}
+
+fn renewal(place: usize, count: usize, r: Record) -> Plan
+    ensures { λ p. ⌜ p ≡ renewalOf place count r ⌝ }
+{
+    Plan {
+        answer: Rolled::Renewed,
+        count: count,
+        place: place,
+        entry: r,
+        at: 0,
+        opened: 0,
+        closed: 0,
+    }
+}
+
+fn entrance(at: usize, free: usize, length: usize, count: usize, r: Record) -> Plan
+    ensures { λ p. ⌜ p ≡ entranceOf at free length count r ⌝ }
+{
+    if free < length {
+        Plan {
+            answer: Rolled::Added,
+            count: raised(count),
+            place: free,
+            entry: r,
+            at: at,
+            opened: raised(count),
+            closed: at,
+        }
+    } else {
+        idle(Rolled::Refused(9), count, length)
+    }
+}
+
+pub fn place_of(p: Plan) -> usize
+    ensures { λ n. ⌜ n ≡ p .place ⌝ }
+{
+    p.place
+}
+
+pub fn entry_of(p: Plan) -> Record
+    ensures { λ r. ⌜ r ≡ p .entry ⌝ }
+{
+    p.entry
+}
+
+pub fn reply_of(p: Plan) -> Reply
+    ensures { λ r. ⌜ (r .answer ≡ p .answer) × (r .count ≡ p .count) ⌝ }
+{
+    let answer = p.answer;
+    Reply {
+        answer: answer,
+        count: p.count,
+    }
+}
