@@ -134,7 +134,7 @@ room-of rs ps n e g =
     let p = parts rs ps n e in
     let h : freePlace rs < length rs = ltb-true (freePlace rs) (length rs) g in
     let fewer : n < length rs = subst (λ (k : ℕ). k < length rs) (p .live) (free-fewer rs h) in
-    let few : length rs ≤ 1000 = p .few in
+    let few : length rs ≤ largest = p .few in
     record {
       raised = ap (λ (b : Bool). cond b (n + 1) n) (lt-ltb n largest (omega arith));
       small = omega arith;

@@ -12,7 +12,7 @@ use borrow.Author.Tests.{eqb-true, eqb-false, eq-eqb, ltb-true, ltb-false, lt-lt
 use Rattle.outcome.proofs.Laws.{never, both}
 use Rattle.message.specs.Message.{isWord}
 use Rattle.rollcall_table.specs.declared.Record.{Record}
-use Rattle.rollcall_table.specs.Table.{recordAt, placeAt, addressAt, rightLengths, Sound, liveIn, inOrder, isSound, holds, holder, freePlace, below, isIn, position}
+use Rattle.rollcall_table.specs.Table.{largest, recordAt, placeAt, addressAt, rightLengths, Sound, liveIn, inOrder, isSound, holds, holder, freePlace, below, isIn, position}
 use Rattle.rollcall_table.specs.Checks.{orderedTo, smallerOf, isRight, verdictOf}
 use Rattle.rollcall_table.proofs.Along.{below-after, below-before, ordered-all}
 use Rattle.rollcall_table.proofs.Counting.{live-within}
@@ -69,10 +69,10 @@ pub alone : (rs : List Record) (ps : List ℕ) (n : ℕ) → Sound rs ps n → (
 alone rs ps n s i j a x y =
     let p = holds-parts (recordAt rs i) a x in
     let q = holds-parts (recordAt rs j) a y in
-    by (s .place i (p .0)) (s .place j (q .0)) (s .listed i (p .0)) (s .listed j (q .0)) (p .1) (q .1)
+    by (s .listed i (p .0)) (s .listed j (q .0)) (p .1) (q .1)
   where
-    by : (k l : ℕ) → (k < n) × (placeAt ps k ≡ i) → (l < n) × (placeAt ps l ≡ j) → addressAt rs i ≡ a → addressAt rs j ≡ a → i ≡ j
-    by k l (h, e) (m, f) x y = sym e ∙ ap (λ (z : ℕ). placeAt ps z) (same (ltb k l) refl (ltb l k) refl) ∙ f
+    by : (k : ℕ) × ((k < n) × (placeAt ps k ≡ i)) → (l : ℕ) × ((l < n) × (placeAt ps l ≡ j)) → addressAt rs i ≡ a → addressAt rs j ≡ a → i ≡ j
+    by (k, (h, e)) (l, (m, f)) x y = sym e ∙ ap (λ (z : ℕ). placeAt ps z) (same (ltb k l) refl (ltb l k) refl) ∙ f
       where
         at-k : addressAt rs (placeAt ps k) ≡ a
         at-k = ap (λ (z : ℕ). addressAt rs z) e ∙ x
@@ -115,13 +115,13 @@ module _ (rs : List Record) (ps : List ℕ) (n a : ℕ) (p : Parts rs ps n) wher
 
   -- so what the code asks of the record listed there is true exactly of a live address
   pub in-there : isIn rs a ≡ true → (ltb (position rs ps n a) n && holds (recordAt rs (placeAt ps (position rs ps n a))) a ≡ true) × (placeAt ps (position rs ps n a) ≡ holder rs a)
-  in-there e = by (found-sound .place (holder rs a) (h .0)) (found-sound .listed (holder rs a) (h .0))
+  in-there e = by (found-sound .listed (holder rs a) (h .0))
     where
       h : (recordAt rs (holder rs a) .live ≡ true) × (addressAt rs (holder rs a) ≡ a)
       h = holds-parts (recordAt rs (holder rs a)) a (in-holds rs a e)
 
-      by : (k : ℕ) → (k < n) × (placeAt ps k ≡ holder rs a) → (ltb (position rs ps n a) n && holds (recordAt rs (placeAt ps (position rs ps n a))) a ≡ true) × (placeAt ps (position rs ps n a) ≡ holder rs a)
-      by k (l, f) =
+      by : (k : ℕ) × ((k < n) × (placeAt ps k ≡ holder rs a)) → (ltb (position rs ps n a) n && holds (recordAt rs (placeAt ps (position rs ps n a))) a ≡ true) × (placeAt ps (position rs ps n a) ≡ holder rs a)
+      by (k, (l, f)) =
           let at : position rs ps n a ≡ k = position-is k l (ap (λ (z : ℕ). addressAt rs z) f ∙ h .1) in
           let q : placeAt ps (position rs ps n a) ≡ holder rs a = ap (λ (z : ℕ). placeAt ps z) at ∙ f in
           let m : position rs ps n a < n = omega arith in
@@ -150,7 +150,7 @@ right-sound rs ps n w live ordered right ew eo el er =
     by true x true y = ap (λ (t : Bool). eqb (liveIn rs) n && t) same
       where
         k : length rs ≡ length ps
-        k = eqb-true (length rs) (length ps) (both (eqb (length rs) (length ps)) (leb 1 (length rs) && leb (length rs) 1000) x .0)
+        k = eqb-true (length rs) (length ps) (both (eqb (length rs) (length ps)) (leb 1 (length rs) && leb (length rs) largest) x .0)
 
         few : n ≤ length ps
         few = subst (λ (m : ℕ). n ≤ m) k (leb-true n (length rs) y)

@@ -112,7 +112,6 @@ module _ (rs : List Record) (ps : List ℕ) (n : ℕ) where
     narrow = narrow;
     inside = λ k h. live-within rs (placeAt ps k) (alive k h);
     alive = alive;
-    place = λ i l. indexOf i (take n ps);
     listed = listed;
     once = once;
     ascending = ascending;
@@ -130,11 +129,11 @@ module _ (rs : List Record) (ps : List ℕ) (n : ℕ) where
       found : (i : ℕ) → recordAt rs i .live ≡ true → (indexOf i (take n ps) < length (take n ps)) × (getD (take n ps) (indexOf i (take n ps)) 0 ≡ i)
       found i l = mem-index i (take n ps) (all-named rs 0 (take n ps) (p .ordered) (p .live ∙ sym long) i l)
 
-      listed : (i : ℕ) (l : recordAt rs i .live ≡ true) → (indexOf i (take n ps) < n) × (placeAt ps (indexOf i (take n ps)) ≡ i)
+      listed : (i : ℕ) → recordAt rs i .live ≡ true → (k : ℕ) × ((k < n) × (placeAt ps k ≡ i))
       listed i l =
           let f = found i l in
           let h : indexOf i (take n ps) < n = subst (λ (m : ℕ). indexOf i (take n ps) < m) long (f .0) in
-          (h, sym (entry (indexOf i (take n ps)) h) ∙ f .1)
+          (indexOf i (take n ps), (h, sym (entry (indexOf i (take n ps)) h) ∙ f .1))
 
       narrow : (i : ℕ) → recordAt rs i .live ≡ true → addressAt rs i ≤ 0xFFFFFF
       narrow i l =
@@ -183,4 +182,4 @@ module _ (rs : List Record) (ps : List ℕ) (n : ℕ) where
           named : (i : ℕ) → recordAt rs i .live ≡ true → mem i (take n ps) ≡ true
           named i l =
               let f = s .listed i l in
-              ap (λ (q : ℕ). mem q (take n ps)) (sym (entry (s .place i l) (f .0) ∙ f .1)) ∙ index-mem (take n ps) (s .place i l) (subst (λ (m : ℕ). s .place i l < m) (sym long) (f .0))
+              ap (λ (q : ℕ). mem q (take n ps)) (sym (entry (f .0) (f .1 .0) ∙ f .1 .1)) ∙ index-mem (take n ps) (f .0) (subst (λ (m : ℕ). f .0 < m) (sym long) (f .1 .0))

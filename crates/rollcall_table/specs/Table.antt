@@ -48,8 +48,7 @@ pub record Sound (rs : List Record) (ps : List ℕ) (n : ℕ) : Type 0 where
   pub narrow : (i : ℕ) → recordAt rs i .live ≡ true → addressAt rs i ≤ 0xFFFFFF
   pub inside : (k : ℕ) → k < n → placeAt ps k < length rs
   pub alive : (k : ℕ) → k < n → recordAt rs (placeAt ps k) .live ≡ true
-  pub place : (i : ℕ) → recordAt rs i .live ≡ true → ℕ
-  pub listed : (i : ℕ) (l : recordAt rs i .live ≡ true) → (place i l < n) × (placeAt ps (place i l) ≡ i)
+  pub listed : (i : ℕ) → recordAt rs i .live ≡ true → (k : ℕ) × ((k < n) × (placeAt ps k ≡ i))
   pub once : (j k : ℕ) → j < n → k < n → placeAt ps j ≡ placeAt ps k → j ≡ k
   pub ascending : (j k : ℕ) → j < k → k < n → addressAt rs (placeAt ps j) < addressAt rs (placeAt ps k)
 

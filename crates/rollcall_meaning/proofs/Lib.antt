@@ -1,0 +1,7 @@
+-- The proofs of the statements.
+pub mod Ordering
+pub mod Sounding
+pub mod Mapping
+pub mod Changing
+pub mod Plain
+pub mod Running

@@ -1,0 +1,110 @@
+-- The table as a map from addresses to altitude and time, and a plain map to compare it with (document 02, Point 4).
+use Prim.Native.Nat.{ℕ}
+use mathlib.Core.Bool.{Bool, true, false, cond, _||_}
+use mathlib.Core.List.{List, [], _∷_}
+use mathlib.Core.Option.{Option, none, some}
+use lib.Dec.{eqb, ltb}
+use lib.ListN.{length}
+use Rattle.outcome.specs.Outcomes.{Outcome, done, unless}
+use Rattle.outcome.specs.Outcomes.Outcome.{answer}
+use Rattle.outcome.specs.Refusals.{wordTooLarge, tableFull}
+use Rattle.message.specs.Message.{isWord}
+use Rattle.rollcall_table.specs.declared.Record.{Record}
+use Rattle.rollcall_table.specs.declared.Reading.{Reading}
+use Rattle.rollcall_table.specs.declared.Sighting.{Sighting}
+use Rattle.rollcall_table.specs.Table.{holds}
+use Rattle.rollcall_plans.specs.Calls.{found, absent, kept, clearOutcome, clearCount, clearRecords, findOutcome, removeOutcome, removeCount, removeRecords, removePlaces, addOutcome, addCount, addRecords, addPlaces}
+
+-- ---- the table as a map
+
+-- An altitude or that it is missing, and a time.
+abbrev pub Value : Type 0
+Value = Reading × ℕ
+
+abbrev pub valueOf : Record → Value
+valueOf r = (r .altitude, r .time)
+
+-- The value of the live record of an address, if there is one.
+unfoldable pub mapOf : List Record → ℕ → Option Value
+mapOf [] a = none
+mapOf (r ∷ rs) a = cond (holds r a) (some (valueOf r)) (mapOf rs a)
+
+-- What find says of a value.
+abbrev pub told : Option Value → Outcome
+told (some v) = found (v .0) (v .1)
+told none = absent
+
+-- ---- the calls
+
+pub data Call : Type 0 where
+  clear : Call
+  add : Sighting → Call
+  remove : ℕ → Call
+  find : ℕ → Call
+
+-- The records, the places and the count.
+pub record Table : Type 0 where
+  pub records : List Record
+  pub places : List ℕ
+  pub count : ℕ
+
+-- What a call answers and leaves: the definitions that the contracts name.
+unfoldable pub outcome : Call → Table → Outcome
+outcome clear t = clearOutcome (t .records) (t .places)
+outcome (add s) t = addOutcome (t .records) (t .places) (t .count) s
+outcome (remove a) t = removeOutcome (t .records) (t .places) (t .count) a
+outcome (find a) t = findOutcome (t .records) (t .places) (t .count) a
+
+unfoldable pub after : Call → Table → Table
+after clear t = record { records = clearRecords (t .records) (t .places); places = t .places; count = clearCount (t .records) (t .places) (t .count) }
+after (add s) t = record {
+  records = addRecords (t .records) (t .places) (t .count) s;
+  places = addPlaces (t .records) (t .places) (t .count) s;
+  count = addCount (t .records) (t .places) (t .count) s;
+}
+after (remove a) t = record {
+  records = removeRecords (t .records) (t .places) (t .count) a;
+  places = removePlaces (t .records) (t .places) (t .count) a;
+  count = removeCount (t .records) (t .places) (t .count) a;
+}
+after (find a) t = t
+
+-- ---- a plain map with room for so many entries
+
+abbrev pub Entries : Type 0
+Entries = List (ℕ × Value)
+
+unfoldable pub lookup : Entries → ℕ → Option Value
+lookup [] a = none
+lookup (e ∷ m) a = cond (eqb (e .0) a) (some (e .1)) (lookup m a)
+
+-- The entry of the address replaced, or a new one.
+unfoldable pub put : ℕ → Value → Entries → Entries
+put a v [] = (a, v) ∷ []
+put a v (e ∷ m) = cond (eqb (e .0) a) ((a, v) ∷ m) (e ∷ put a v m)
+
+-- The entry of the address taken out.
+unfoldable pub takeOut : ℕ → Entries → Entries
+takeOut a [] = []
+takeOut a (e ∷ m) = cond (eqb (e .0) a) m (e ∷ takeOut a m)
+
+abbrev pub isSome : {X : Type 0} → Option X → Bool
+isSome (some x) = true
+isSome none = false
+
+-- What the calls answer and leave on a plain map with the room for r entries: an address above FFFFFF is refused by row 3, and
+-- a new one by row 9 where no room is left.
+unfoldable pub plainOutcome : ℕ → Call → Entries → Outcome
+plainOutcome r clear m = done
+plainOutcome r (add s) m =
+    unless (isWord (s .address)) wordTooLarge
+    (unless (isSome (lookup m (s .address)) || ltb (length m) r) tableFull
+    (cond (isSome (lookup m (s .address))) (answer 2 []) (answer 1 [])))
+plainOutcome r (remove a) m = unless (isWord a) wordTooLarge (cond (isSome (lookup m a)) (answer 3 []) absent)
+plainOutcome r (find a) m = unless (isWord a) wordTooLarge (told (lookup m a))
+
+unfoldable pub plainAfter : ℕ → Call → Entries → Entries
+plainAfter r clear m = []
+plainAfter r (add s) m = kept (plainOutcome r (add s) m) m (put (s .address) (s .altitude, s .time) m)
+plainAfter r (remove a) m = kept (plainOutcome r (remove a) m) m (takeOut a m)
+plainAfter r (find a) m = m

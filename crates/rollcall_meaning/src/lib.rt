@@ -1,0 +1,1 @@
+// What the calls on the roll-call table mean: statements in specs/, and their proofs.
