@@ -14,7 +14,7 @@ use lib.ListN.{length}
 use lib.Signed.{leZ, _≤ℤ_, _<ℤ_, clashℤ}
 use borrow.Author.Tests.{eqb-true, eqb-false, eq-eqb, ne-eqb, leb-false, lt-leb, not-false}
 use Rattle.outcome.specs.Outcomes.{Outcome, value, done, unless, Unrefused}
-use Rattle.outcome.specs.Outcomes.Outcome.{refusal}
+use Rattle.outcome.specs.Outcomes.Outcome.{refusal, answer}
 use Rattle.outcome.proofs.Laws.{never, or-cases, or-second, refusal-is-no-answer, left-of}
 use Rattle.message.specs.Message.{number, bitOf, firstBit, formatNumber, isMessageLength, isFieldLength, isWord, firstBitAgrees}
 use Rattle.division.specs.Division.{shiftIn, backward, overlay, parity, remainder, addressRead}
@@ -37,9 +37,14 @@ use Rattle.antennas.specs.Antennas.{isTaken, choiceOf, said as saidAntenna}
 use Rattle.antennas.specs.declared.Antenna.{Antenna}
 use Rattle.antennas.specs.declared.Antenna.the-variants.{Upper, Lower, Neither, Refused as AntennaRefused}
 use Rattle.antennas.proofs.Laws.{Case as AntennaCase, case as antenna-case, said-by-tests}
-use Rattle.conformance.specs.Refusals.{Part, row, Wrong, Call, handed, outcome, lent, after, Breaks, SomeBreaks, Applies, RefusedByLowest, UnrefusedWhereNone, RefusedLeaves}
-use Rattle.conformance.specs.Refusals.Part.{message, field, confidence, word, limit, judged, ownAddress, altitude}
-use Rattle.conformance.specs.Refusals.Call.{registerStep, registerBack, uplinkOverlay, fieldParity, messageRemainder, addressRead as readAddress, sealReply, sealInterrogation, receive, correct, readAltitude, writeAltitude, takenAntenna}
+use Rattle.rollcall_table.specs.declared.Record.{Record}
+use Rattle.rollcall_table.specs.Table.{recordAt, rightLengths, isSound, holder, isIn, hasRoom}
+use Rattle.rollcall_plans.specs.Calls.{found, absent, clearOutcome, findOutcome, removeOutcome, addOutcome}
+use Rattle.rollcall_meaning.proofs.Laws.{lengths-wrong, wrong-lengths, unsound, not-sound, no-place, place-none, clear-leaves, add-leaves, remove-leaves}
+use Rattle.conformance.specs.Refusals.{Part, row, Wrong, Call, Lent, handed, outcome, lent, after, Breaks, SomeBreaks, Applies, RefusedByLowest, UnrefusedWhereNone, RefusedLeaves}
+use Rattle.conformance.specs.Refusals.Part.{message, field, confidence, word, limit, judged, ownAddress, altitude, lengths, table, entering}
+use Rattle.conformance.specs.Refusals.Call.{registerStep, registerBack, uplinkOverlay, fieldParity, messageRemainder, addressRead as readAddress, sealReply, sealInterrogation, receive, correct, readAltitude, writeAltitude, takenAntenna, clearTable, addOrRenew, removeRecord, findRecord}
+use Rattle.conformance.specs.Refusals.Lent.{bytes, rollcall}
 
 -- ---- the test of each part
 
@@ -52,6 +57,9 @@ passes (limit l) = leb l 24
 passes (judged m) = firstBitAgrees m
 passes (ownAddress a) = not (isReserved a)
 passes (altitude z s) = inCode z s
+passes (lengths rs ps) = rightLengths (length rs) (length ps)
+passes (table rs ps n) = isSound rs ps n
+passes (entering rs a) = isIn rs a || hasRoom rs
 
 -- two tests of equality, either of which will do
 either-false : (a b c : ℕ) → ((eqb a b || eqb a c) ≡ false) ↔ ((a ≡ b → ⊥) × (a ≡ c → ⊥))
@@ -139,6 +147,9 @@ failed-wrong (limit l) e = leb-false l 24 e
 failed-wrong (judged m) e = first-bit-wrong m e
 failed-wrong (ownAddress a) e = reserved a (not-false (isReserved a) e)
 failed-wrong (altitude z s) e = not-in-code z s e
+failed-wrong (lengths rs ps) e = lengths-wrong (length rs) (length ps) e
+failed-wrong (table rs ps n) e = unsound rs ps n e
+failed-wrong (entering rs a) e = no-place rs a e
 
 wrong-failed : (p : Part) → Wrong p → passes p ≡ false
 unfolding passes Wrong isMessageLength isFieldLength isWord
@@ -150,6 +161,9 @@ wrong-failed (limit l) h = lt-leb l 24 h
 wrong-failed (judged m) h = wrong-first-bit m h
 wrong-failed (ownAddress a) h = ap not (is-reserved a h)
 wrong-failed (altitude z s) h = not-of-code z s h
+wrong-failed (lengths rs ps) h = wrong-lengths (length rs) (length ps) h
+wrong-failed (table rs ps n) h = not-sound rs ps n h
+wrong-failed (entering rs a) h = place-none rs a h
 
 -- ---- a chain of tests
 
@@ -244,9 +258,13 @@ final (correct m c w l) = decisionAnswer m (syndrome m w) (decisionOf m c w l)
 final (readAltitude m) = saidAltitude (readingOf m)
 final (writeAltitude m z s) = saidWriting (cond (hasAltitude m) Written NoSuchField)
 final (takenAntenna own u p l q) = saidAntenna (choiceOf own u p l q)
+final (clearTable rs ps n) = done
+final (addOrRenew rs ps n s) = cond (isIn rs (s .address)) (answer 2 []) (answer 1 [])
+final (removeRecord rs ps n a) = cond (isIn rs a) (answer 3 []) absent
+final (findRecord rs ps n a) = cond (isIn rs a) (found (recordAt rs (holder rs a) .altitude) (recordAt rs (holder rs a) .time)) absent
 
 is-chain : (c : Call) → chain (handed c) (final c) ≡ outcome c
-unfolding chain passes row handed final outcome registerAnswer backwardAnswer overlayAnswer parityAnswer remainderAnswer addressAnswer sealOutcome receptionOutcome sensorOutcome checked readingOutcome writingOutcome
+unfolding chain passes row handed final outcome registerAnswer backwardAnswer overlayAnswer parityAnswer remainderAnswer addressAnswer sealOutcome receptionOutcome sensorOutcome checked readingOutcome writingOutcome clearOutcome addOutcome removeOutcome findOutcome
 is-chain (registerStep r b) = refl
 is-chain (registerBack r) = refl
 is-chain (uplinkOverlay a) = refl
@@ -260,6 +278,10 @@ is-chain (correct m c w l) = refl
 is-chain (readAltitude m) = refl
 is-chain (writeAltitude m z s) = refl
 is-chain (takenAntenna own u p l q) = said-by-tests own u p l q
+is-chain (clearTable rs ps n) = refl
+is-chain (addOrRenew rs ps n s) = refl
+is-chain (removeRecord rs ps n a) = refl
+is-chain (findRecord rs ps n a) = refl
 
 in-order : (c : Call) → From 0 (handed c)
 unfolding From handed row
@@ -276,6 +298,10 @@ in-order (correct m c w l) = (lit≤ tt, (lit≤ tt, (lit≤ tt, (lit≤ tt, tt)
 in-order (readAltitude m) = (lit≤ tt, (lit≤ tt, tt))
 in-order (writeAltitude m z s) = (lit≤ tt, (lit≤ tt, (lit≤ tt, tt)))
 in-order (takenAntenna own u p l q) = (lit≤ tt, (lit≤ tt, tt))
+in-order (clearTable rs ps n) = (lit≤ tt, tt)
+in-order (addOrRenew rs ps n s) = (lit≤ tt, (lit≤ tt, (lit≤ tt, tt)))
+in-order (removeRecord rs ps n a) = (lit≤ tt, (lit≤ tt, tt))
+in-order (findRecord rs ps n a) = (lit≤ tt, (lit≤ tt, tt))
 
 reception-final : (own a f : ℕ) (r : Reception) → Case own a f r → Unrefused (said r)
 reception-final own a f Own h n e = refusal-is-no-answer (sym e)
@@ -300,6 +326,11 @@ antenna-final s p t q Lower h n e = refusal-is-no-answer (sym e)
 antenna-final s p t q Neither h n e = refusal-is-no-answer (sym e)
 antenna-final s p t q (AntennaRefused k) h n e = h
 
+-- one of two answers is no refusal
+either-final : (t : Bool) (j k : ℕ) (us vs : List ℕ) → Unrefused (cond t (answer j us) (answer k vs))
+either-final true j k us vs n e = refusal-is-no-answer (sym e)
+either-final false j k us vs n e = refusal-is-no-answer (sym e)
+
 is-final : (c : Call) → Unrefused (final c)
 unfolding final
 is-final (registerStep r b) n e = refusal-is-no-answer (sym e)
@@ -315,6 +346,10 @@ is-final (correct m c w l) n e = decision-final m (syndrome m w) (decisionOf m c
 is-final (readAltitude m) n e = reading-final m n e
 is-final (writeAltitude m z s) n e = writing-final (hasAltitude m) n e
 is-final (takenAntenna own u p l q) n e = antenna-final _ p _ q (choiceOf own u p l q) (antenna-case (isTaken (receptionOutcome own u)) p (isTaken (receptionOutcome own l)) q) n e
+is-final (clearTable rs ps k) n e = refusal-is-no-answer (sym e)
+is-final (addOrRenew rs ps k s) n e = either-final (isIn rs (s .address)) 2 1 [] [] n e
+is-final (removeRecord rs ps k a) n e = either-final (isIn rs a) 3 5 [] [] n e
+is-final (findRecord rs ps k a) n e = either-final (isIn rs a) 4 5 _ [] n e
 
 -- ---- the theorems
 
@@ -332,6 +367,9 @@ unrefused-where-none c = (
   λ h n e. none-unrefused (final c) (is-final c) (handed c) h n (is-chain c ∙ e),
 )
 
+same : (rs rs′ : List Record) (ps ps′ : List ℕ) (n n′ : ℕ) → rs′ ≡ rs → ps′ ≡ ps → n′ ≡ n → rollcall rs′ ps′ n′ ≡ rollcall rs ps n
+same rs rs′ ps ps′ n n′ x y z = cc
+
 pub refused-leaves : RefusedLeaves
 unfolding RefusedLeaves outcome after lent replyAfter interrogationAfter
 refused-leaves (registerStep r b) n e = refl
@@ -340,10 +378,14 @@ refused-leaves (uplinkOverlay a) n e = refl
 refused-leaves (fieldParity f) n e = refl
 refused-leaves (messageRemainder m) n e = refl
 refused-leaves (readAddress m) n e = refl
-refused-leaves (sealReply m w) n e = left-of _ _ m (replySeal m w) e
-refused-leaves (sealInterrogation m a) n e = left-of _ _ m (interrogationSeal m a) e
+refused-leaves (sealReply m w) n e = ap bytes (left-of _ _ m (replySeal m w) e)
+refused-leaves (sealInterrogation m a) n e = ap bytes (left-of _ _ m (interrogationSeal m a) e)
 refused-leaves (receive own m) n e = refl
-refused-leaves (correct m c w l) n e = after-refused m c w l n e
+refused-leaves (correct m c w l) n e = ap bytes (after-refused m c w l n e)
 refused-leaves (readAltitude m) n e = refl
-refused-leaves (writeAltitude m z s) n e = sym (left-refused m z s n (sym e))
+refused-leaves (writeAltitude m z s) n e = ap bytes (sym (left-refused m z s n (sym e)))
 refused-leaves (takenAntenna own u p l q) n e = refl
+refused-leaves (clearTable rs ps k) n e = same rs _ ps ps k _ (clear-leaves rs ps k n e .0) refl (clear-leaves rs ps k n e .1)
+refused-leaves (addOrRenew rs ps k s) n e = let l = add-leaves rs ps k s n e in same rs _ ps _ k _ (l .0) (l .1 .0) (l .1 .1)
+refused-leaves (removeRecord rs ps k a) n e = let l = remove-leaves rs ps k a n e in same rs _ ps _ k _ (l .0) (l .1 .0) (l .1 .1)
+refused-leaves (findRecord rs ps k a) n e = refl

@@ -8,13 +8,13 @@ use Prim.Native.Nat.{ℕ, _%_, _<_}
 use mathlib.Core.Path.{_≡_}
 use mathlib.Core.Logic.{_↔_, _⊎_}
 use mathlib.Core.List.{List, [], _∷_}
-use mathlib.Core.Bool.{Bool}
+use mathlib.Core.Bool.{Bool, true}
 use lib.IntN.{ℤ, natAbs}
 use lib.ListN.{length}
 use lib.Signed.{_<ℤ_}
 use Rattle.outcome.specs.Outcomes.{Outcome, Unrefused}
 use Rattle.outcome.specs.Outcomes.Outcome.{refusal}
-use Rattle.outcome.specs.Refusals.{wrongLength, wrongConfidenceLength, wordTooLarge, limitTooLarge, firstBitContradicts, ownAddressReserved, altitudeNotInCode}
+use Rattle.outcome.specs.Refusals.{wrongLength, wrongConfidenceLength, wordTooLarge, limitTooLarge, firstBitContradicts, ownAddressReserved, altitudeNotInCode, tableUnsound, tableFull}
 use Rattle.message.specs.Message.{firstBit}
 use Rattle.division.specs.Answers.{registerAnswer, backwardAnswer, overlayAnswer, parityAnswer, remainderAnswer, addressAnswer}
 use Rattle.encoder.specs.Seals.{sealOutcome, replyAfter, interrogationAfter}
@@ -23,11 +23,16 @@ use Rattle.sensor.specs.Verdicts.{sensorOutcome, sensorAfter}
 use Rattle.altitude_code.specs.Altitudes.{lowest, highest}
 use Rattle.altitude.specs.Answers.{readingOutcome, writingOutcome, writingAfter}
 use Rattle.antennas.specs.Antennas.{antennaOf, said as saidAntenna}
+use Rattle.rollcall_table.specs.declared.Record.{Record}
+use Rattle.rollcall_table.specs.declared.Sighting.{Sighting}
+use Rattle.rollcall_table.specs.Table.{largest, recordAt, Sound, holds}
+use Rattle.rollcall_plans.specs.Calls.{clearOutcome, clearCount, clearRecords, findOutcome, removeOutcome, removeCount, removeRecords, removePlaces, addOutcome, addCount, addRecords, addPlaces}
 
 -- ---- the table
 
 -- What a call hands over. A seal, the transponder and the altitude's calls judge the first bit of their message; a confidence
--- buffer belongs to a message; a word may be an address or a register; an altitude, in feet, has its step.
+-- buffer belongs to a message; a word may be an address or a register; an altitude, in feet, has its step; a roll-call table is
+-- its records, its places and its count, of which clear judges the lengths alone; an address is to enter a table's records.
 pub data Part : Type 0 where
   message : List ℕ → Part
   field : List ℕ → Part
@@ -37,6 +42,9 @@ pub data Part : Type 0 where
   judged : List ℕ → Part
   ownAddress : ℕ → Part
   altitude : ℤ → ℕ → Part
+  lengths : List Record → List ℕ → Part
+  table : List Record → List ℕ → ℕ → Part
+  entering : List Record → ℕ → Part
 
 -- The number of the row that speaks of a part,
 unfoldable pub row : Part → ℕ
@@ -48,11 +56,16 @@ row (limit l) = limitTooLarge
 row (judged m) = firstBitContradicts
 row (ownAddress a) = ownAddressReserved
 row (altitude z s) = altitudeNotInCode
+row (lengths rs ps) = tableUnsound
+row (table rs ps n) = tableUnsound
+row (entering rs a) = tableFull
 
 -- and its condition: 'message not 7 or 14 bytes, or field not 4 or 11'; 'confidence length differs from message length';
 -- 'word, address or register above FFFFFF'; 'density limit above 24'; 'first bit contradicts the length', where 'a first
 -- bit 0 belongs to n = 56 and 1 to n = 112' (row 1 comes before it, so the length is one of the two); 'own address 000000
--- or FFFFFF'; 'the step is neither 25 nor 100, or the altitude is off it or out of that code's range' (document 02, Point 1).
+-- or FFFFFF'; 'the step is neither 25 nor 100, or the altitude is off it or out of that code's range' (document 02, Point 1);
+-- 'the two lengths differ or lie outside 1 to 1000', or the table is not sound; 'the address is new and every place is live'
+-- (Point 4).
 unfoldable pub Wrong : Part → Type 0
 Wrong (message m) = (length m ≡ 7 → ⊥) × (length m ≡ 14 → ⊥)
 Wrong (field f) = (length f ≡ 4 → ⊥) × (length f ≡ 11 → ⊥)
@@ -63,6 +76,9 @@ Wrong (judged m) = ((length m ≡ 14) × (firstBit m ≡ 1 → ⊥)) ⊎ ((lengt
 Wrong (ownAddress a) = (a ≡ 0x000000) ⊎ (a ≡ 0xFFFFFF)
 Wrong (altitude z s) =
     ((s ≡ 25 → ⊥) × (s ≡ 100 → ⊥)) ⊎ ((natAbs z % s ≡ 0 → ⊥) ⊎ ((z <ℤ lowest s) ⊎ (highest s <ℤ z)))
+Wrong (lengths rs ps) = (length rs ≡ length ps → ⊥) ⊎ ((length rs < 1) ⊎ (largest < length rs))
+Wrong (table rs ps n) = Sound rs ps n → ⊥
+Wrong (entering rs a) = ((i : ℕ) → holds (recordAt rs i) a ≡ true → ⊥) × ((i : ℕ) → i < length rs → recordAt rs i .live ≡ true)
 
 -- ---- the calls
 
@@ -81,6 +97,10 @@ pub data Call : Type 0 where
   readAltitude : List ℕ → Call
   writeAltitude : List ℕ → ℤ → ℕ → Call
   takenAntenna : ℕ → List ℕ → ℕ → List ℕ → ℕ → Call
+  clearTable : List Record → List ℕ → ℕ → Call
+  addOrRenew : List Record → List ℕ → ℕ → Sighting → Call
+  removeRecord : List Record → List ℕ → ℕ → ℕ → Call
+  findRecord : List Record → List ℕ → ℕ → ℕ → Call
 
 -- What each hands over: the table's column 'Calls'. The companion of the two-antenna transponder hands over the own address
 -- alone: 'A buffer that would be refused is simply not taken' (document 02, Point 5).
@@ -98,6 +118,10 @@ handed (correct m c w l) = message m ∷ confidence m c ∷ word w ∷ limit l �
 handed (readAltitude m) = message m ∷ judged m ∷ []
 handed (writeAltitude m z s) = message m ∷ judged m ∷ altitude z s ∷ []
 handed (takenAntenna own u p l q) = word own ∷ ownAddress own ∷ []
+handed (clearTable rs ps n) = lengths rs ps ∷ []
+handed (addOrRenew rs ps n s) = word (s .address) ∷ table rs ps n ∷ entering rs (s .address) ∷ []
+handed (removeRecord rs ps n a) = word a ∷ table rs ps n ∷ []
+handed (findRecord rs ps n a) = word a ∷ table rs ps n ∷ []
 
 -- What each answers: the definition that its contract names.
 unfoldable pub outcome : Call → Outcome
@@ -114,37 +138,54 @@ outcome (correct m c w l) = sensorOutcome m c w l
 outcome (readAltitude m) = readingOutcome m
 outcome (writeAltitude m z s) = writingOutcome m z s
 outcome (takenAntenna own u p l q) = saidAntenna (antennaOf own u p l q)
+outcome (clearTable rs ps n) = clearOutcome rs ps
+outcome (addOrRenew rs ps n s) = addOutcome rs ps n s
+outcome (removeRecord rs ps n a) = removeOutcome rs ps n a
+outcome (findRecord rs ps n a) = findOutcome rs ps n a
 
--- The buffer that each is lent to write in, and what it holds after the call; no bytes where nothing is lent so.
-unfoldable pub lent : Call → List ℕ
-lent (registerStep r b) = []
-lent (registerBack r) = []
-lent (uplinkOverlay a) = []
-lent (fieldParity f) = []
-lent (messageRemainder m) = []
-lent (addressRead m) = []
-lent (sealReply m w) = m
-lent (sealInterrogation m a) = m
-lent (receive own m) = []
-lent (correct m c w l) = m
-lent (readAltitude m) = []
-lent (writeAltitude m z s) = m
-lent (takenAntenna own u p l q) = []
+-- What a call may change: a buffer of bytes; or a table's records and places, and its count, which is passed in and returned.
+pub data Lent : Type 0 where
+  bytes : List ℕ → Lent
+  rollcall : List Record → List ℕ → ℕ → Lent
 
-unfoldable pub after : Call → List ℕ
-after (registerStep r b) = []
-after (registerBack r) = []
-after (uplinkOverlay a) = []
-after (fieldParity f) = []
-after (messageRemainder m) = []
-after (addressRead m) = []
-after (sealReply m w) = replyAfter m w
-after (sealInterrogation m a) = interrogationAfter m a
-after (receive own m) = []
-after (correct m c w l) = sensorAfter m c w l
-after (readAltitude m) = []
-after (writeAltitude m z s) = writingAfter m z s
-after (takenAntenna own u p l q) = []
+-- What each is lent to change, and what it is after the call; no bytes where nothing is lent so.
+unfoldable pub lent : Call → Lent
+lent (registerStep r b) = bytes []
+lent (registerBack r) = bytes []
+lent (uplinkOverlay a) = bytes []
+lent (fieldParity f) = bytes []
+lent (messageRemainder m) = bytes []
+lent (addressRead m) = bytes []
+lent (sealReply m w) = bytes m
+lent (sealInterrogation m a) = bytes m
+lent (receive own m) = bytes []
+lent (correct m c w l) = bytes m
+lent (readAltitude m) = bytes []
+lent (writeAltitude m z s) = bytes m
+lent (takenAntenna own u p l q) = bytes []
+lent (clearTable rs ps n) = rollcall rs ps n
+lent (addOrRenew rs ps n s) = rollcall rs ps n
+lent (removeRecord rs ps n a) = rollcall rs ps n
+lent (findRecord rs ps n a) = bytes []
+
+unfoldable pub after : Call → Lent
+after (registerStep r b) = bytes []
+after (registerBack r) = bytes []
+after (uplinkOverlay a) = bytes []
+after (fieldParity f) = bytes []
+after (messageRemainder m) = bytes []
+after (addressRead m) = bytes []
+after (sealReply m w) = bytes (replyAfter m w)
+after (sealInterrogation m a) = bytes (interrogationAfter m a)
+after (receive own m) = bytes []
+after (correct m c w l) = bytes (sensorAfter m c w l)
+after (readAltitude m) = bytes []
+after (writeAltitude m z s) = bytes (writingAfter m z s)
+after (takenAntenna own u p l q) = bytes []
+after (clearTable rs ps n) = rollcall (clearRecords rs ps) ps (clearCount rs ps n)
+after (addOrRenew rs ps n s) = rollcall (addRecords rs ps n s) (addPlaces rs ps n s) (addCount rs ps n s)
+after (removeRecord rs ps n a) = rollcall (removeRecords rs ps n a) (removePlaces rs ps n a) (removeCount rs ps n a)
+after (findRecord rs ps n a) = bytes []
 
 -- ---- the statements
 

@@ -5,3 +5,5 @@ pub mod Mapping
 pub mod Changing
 pub mod Plain
 pub mod Running
+pub mod Refusing
+pub mod Laws
