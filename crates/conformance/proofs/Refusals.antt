@@ -261,7 +261,7 @@ final (takenAntenna own u p l q) = saidAntenna (choiceOf own u p l q)
 final (clearTable rs ps n) = done
 final (addOrRenew rs ps n s) = cond (isIn rs (s .address)) (answer 2 []) (answer 1 [])
 final (removeRecord rs ps n a) = cond (isIn rs a) (answer 3 []) absent
-final (findRecord rs ps n a) = cond (isIn rs a) (found (recordAt rs (holder rs a) .altitude) (recordAt rs (holder rs a) .time)) absent
+final (findRecord rs ps n a) = cond (isIn rs a) (found (recordAt rs (holder rs a))) absent
 
 is-chain : (c : Call) → chain (handed c) (final c) ≡ outcome c
 unfolding chain passes row handed final outcome registerAnswer backwardAnswer overlayAnswer parityAnswer remainderAnswer addressAnswer sealOutcome receptionOutcome sensorOutcome checked readingOutcome writingOutcome clearOutcome addOutcome removeOutcome findOutcome

@@ -16,10 +16,10 @@ use Rattle.outcome.proofs.Laws.{never, refusal-is-no-answer, same-answer}
 use Rattle.message.specs.Message.{isWord}
 use Rattle.rollcall_table.specs.declared.Record.{Record}
 use Rattle.rollcall_table.specs.declared.Sighting.{Sighting}
-use Rattle.rollcall_table.specs.Table.{blank, recordAt, rightLengths, isSound, holds, holder, freePlace, isIn, hasRoom, unmarked, unmarkedAll, recordOf}
+use Rattle.rollcall_table.specs.Table.{one, blank, recordAt, rightLengths, isSound, holds, holder, freePlace, isIn, hasRoom, unmarked, unmarkedAll, recordOf}
 use Rattle.rollcall_table.proofs.Laws.{of-parts, sound-parts, lengths-right, live-within, free-is, free-first, in-holds, holds-in, holds-parts, alone}
-use Rattle.rollcall_plans.specs.Calls.{found, absent, kept, clearOutcome, clearRecords, findOutcome, removeOutcome, removeRecords, addOutcome, addRecords}
-use Rattle.rollcall_meaning.specs.Maps.{Value, valueOf, mapOf, told, isSome, Table, outcome, after}
+use Rattle.rollcall_plans.specs.Calls.{altitudeValues, found, absent, kept, clearOutcome, clearRecords, findOutcome, removeOutcome, removeRecords, addOutcome, addRecords}
+use Rattle.rollcall_meaning.specs.Maps.{Value, valueOf, mapOf, recordFor, told, isSome, Table, outcome, after}
 use Rattle.rollcall_meaning.specs.Maps.Call.{clear, add, remove, find}
 use Rattle.rollcall_meaning.specs.Keeping.{SoundTable, RightLengths, FindGives, AbsentWhereNothing, AddPuts, AddedOrRenewed, FullExactly, RemoveTakesOut, ClearEmpties, ClearUnsetsMarks, RemoveUnsetsMark, AddChangesOne}
 use Rattle.rollcall_meaning.proofs.Mapping.{map-is, map-none, some-in, none-in, put-map, remove-map, clear-map}
@@ -38,16 +38,23 @@ both-passed true true o x y = refl
 both-passed true false o x y = absurd (never y refl)
 both-passed false t o x y = absurd (never x refl)
 
-pub find-passed : (t : Table) (a : ℕ) → isSound (t .records) (t .places) (t .count) ≡ true → isWord a ≡ true → outcome (find a) t ≡ told (mapOf (t .records) a)
-unfolding outcome findOutcome
-find-passed t a s w = both-passed (isWord a) (isSound (t .records) (t .places) (t .count)) _ w s ∙ by (isIn (t .records) a) ∙ ap told (sym (map-is (t .records) a))
-  where
-    v : Value
-    v = valueOf (recordAt (t .records) (holder (t .records) a))
+-- a record that holds the address is found as the live one of the address
+found-for : (r : Record) (a : ℕ) → holds r a ≡ true → found r ≡ found (recordFor a (valueOf r))
+found-for r a h =
+    let p = holds-parts r a h in
+    ap (λ (l : Bool). answer 4 (one l ∷ r .address ∷ r .time ∷ altitudeValues (r .altitude))) (p .0)
+    ∙ ap (λ (x : ℕ). answer 4 (1 ∷ x ∷ r .time ∷ altitudeValues (r .altitude))) (p .1)
 
-    by : (i : Bool) → cond i (found (v .0) (v .1)) absent ≡ told (cond i (some v) none)
-    by true = refl
-    by false = refl
+pub find-passed : (t : Table) (a : ℕ) → isSound (t .records) (t .places) (t .count) ≡ true → isWord a ≡ true → outcome (find a) t ≡ told a (mapOf (t .records) a)
+unfolding outcome findOutcome
+find-passed t a s w = both-passed (isWord a) (isSound (t .records) (t .places) (t .count)) _ w s ∙ by (isIn (t .records) a) refl ∙ ap (told a) (sym (map-is (t .records) a))
+  where
+    r : Record
+    r = recordAt (t .records) (holder (t .records) a)
+
+    by : (i : Bool) → isIn (t .records) a ≡ i → cond i (found r) absent ≡ told a (cond i (some (valueOf r)) none)
+    by true e = found-for r a (in-holds (t .records) a e)
+    by false e = refl
 
 pub remove-passed : (t : Table) (a : ℕ) → isSound (t .records) (t .places) (t .count) ≡ true → isWord a ≡ true → outcome (remove a) t ≡ cond (isIn (t .records) a) (answer 3 []) absent
 unfolding outcome removeOutcome
@@ -59,14 +66,14 @@ pub find-gives : FindGives
 unfolding FindGives
 find-gives t a s h = find-passed t a (passed t s) (word a h)
 
-told-absent : (m : Option Value) → told m ≡ absent → m ≡ none
-told-absent none e = refl
-told-absent (some v) e = let z : _≡_ {A = ℕ} 4 5 = same-answer e in absurd (omega arith)
+told-absent : (a : ℕ) (m : Option Value) → told a m ≡ absent → m ≡ none
+told-absent a none e = refl
+told-absent a (some v) e = let z : _≡_ {A = ℕ} 4 5 = same-answer e in absurd (omega arith)
 
 pub absent-where-nothing : AbsentWhereNothing
 unfolding AbsentWhereNothing FindGives
 absent-where-nothing t a s h = (
-  ((λ e. told-absent (mapOf (t .records) a) (sym (find-gives t a s h) ∙ e)), λ e. find-gives t a s h ∙ ap told e),
+  ((λ e. told-absent a (mapOf (t .records) a) (sym (find-gives t a s h) ∙ e)), λ e. find-gives t a s h ∙ ap (told a) e),
   ((λ e. map-none (t .records) a (not-in (isIn (t .records) a) (sym (remove-passed t a (passed t s) (word a h)) ∙ e))), λ e. remove-passed t a (passed t s) (word a h) ∙ ap (λ (b : Bool). cond b (answer 3 []) absent) (none-in (t .records) a e)),
 )
   where

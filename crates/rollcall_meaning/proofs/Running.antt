@@ -79,9 +79,9 @@ alike r t m (add s) l = ap (λ (b : Bool). add4 (isWord (s .address)) b (isIn (t
 alike r t m (remove a) l = ap (λ (b : Bool). remove3 (isWord a) b (isIn (t .records) a)) (known r t m l) ∙ sym (plain-remove r t m a l)
 alike r t m (find a) l = by (isWord a) refl
   where
-    by : (w : Bool) → isWord a ≡ w → outcome (find a) t ≡ unless w 3 (told (lookup m a))
-    by true w = find-passed t a (known r t m l) w ∙ ap told (l .maps a)
-    by false w = ap (λ (b : Bool). unless b 3 (unless (isSound (t .records) (t .places) (t .count)) 8 (cond (isIn (t .records) a) (found (recordAt (t .records) (holder (t .records) a) .altitude) (recordAt (t .records) (holder (t .records) a) .time)) absent))) w
+    by : (w : Bool) → isWord a ≡ w → outcome (find a) t ≡ unless w 3 (told a (lookup m a))
+    by true w = find-passed t a (known r t m l) w ∙ ap (told a) (l .maps a)
+    by false w = ap (λ (b : Bool). unless b 3 (unless (isSound (t .records) (t .places) (t .count)) 8 (cond (isIn (t .records) a) (found (recordAt (t .records) (holder (t .records) a))) absent))) w
 
 -- ---- what is left is alike
 

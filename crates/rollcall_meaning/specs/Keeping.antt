@@ -47,7 +47,7 @@ NoneLiveTwice = (t : Table) → SoundTable t → (a i j : ℕ) → holds (record
 -- 'Find gives the live record of the address', for an address of 24 bits: what the map has of it; 'absent' exactly where it has
 -- nothing.
 unfoldable pub FindGives : Type 0
-FindGives = (t : Table) (a : ℕ) → SoundTable t → a ≤ 0xFFFFFF → outcome (find a) t ≡ told (mapOf (t .records) a)
+FindGives = (t : Table) (a : ℕ) → SoundTable t → a ≤ 0xFFFFFF → outcome (find a) t ≡ told a (mapOf (t .records) a)
 
 unfoldable pub AbsentWhereNothing : Type 0
 AbsentWhereNothing =

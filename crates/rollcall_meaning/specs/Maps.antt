@@ -29,10 +29,14 @@ unfoldable pub mapOf : List Record → ℕ → Option Value
 mapOf [] a = none
 mapOf (r ∷ rs) a = cond (holds r a) (some (valueOf r)) (mapOf rs a)
 
--- What find says of a value.
-abbrev pub told : Option Value → Outcome
-told (some v) = found (v .0) (v .1)
-told none = absent
+-- The live record of an address and its value.
+abbrev pub recordFor : ℕ → Value → Record
+recordFor a v = record { live = true; address = a; altitude = v .0; time = v .1 }
+
+-- What find says of an address, by its value.
+abbrev pub told : ℕ → Option Value → Outcome
+told a (some v) = found (recordFor a v)
+told a none = absent
 
 -- ---- the calls
 
@@ -101,7 +105,7 @@ plainOutcome r (add s) m =
     (unless (isSome (lookup m (s .address)) || ltb (length m) r) tableFull
     (cond (isSome (lookup m (s .address))) (answer 2 []) (answer 1 [])))
 plainOutcome r (remove a) m = unless (isWord a) wordTooLarge (cond (isSome (lookup m a)) (answer 3 []) absent)
-plainOutcome r (find a) m = unless (isWord a) wordTooLarge (told (lookup m a))
+plainOutcome r (find a) m = unless (isWord a) wordTooLarge (told a (lookup m a))
 
 unfoldable pub plainAfter : ℕ → Call → Entries → Entries
 plainAfter r clear m = []

@@ -31,7 +31,7 @@ spotBy3 w t i k h r m = cond (eqb (cond w (cond t 0 8) 3) 0) (spotAt i k h r m) 
 
 -- ---- find
 
-found3 : (w t i : Bool) (k h : ℕ) (r : Record) (m : ℕ) → said (foundBy (spotBy3 w t i k h r m)) ≡ unless w 3 (unless t 8 (cond i (found (r .altitude) (r .time)) absent))
+found3 : (w t i : Bool) (k h : ℕ) (r : Record) (m : ℕ) → said (foundBy (spotBy3 w t i k h r m)) ≡ unless w 3 (unless t 8 (cond i (found r) absent))
 found3 true true true k h r m = refl
 found3 true true false k h r m = refl
 found3 true false i k h r m = refl

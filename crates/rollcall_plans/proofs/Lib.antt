@@ -2,4 +2,5 @@
 pub mod Moving
 pub mod Spots
 pub mod Answering
+pub mod Said
 pub mod Laws

@@ -17,7 +17,7 @@ use Rattle.rollcall_table.specs.declared.Reading.the-variants.{Known, Missing}
 use Rattle.rollcall_table.specs.declared.Sighting.{Sighting}
 use Rattle.rollcall_plans.specs.declared.Rolled.{Rolled}
 use Rattle.rollcall_plans.specs.declared.Rolled.the-variants as R
-use Rattle.rollcall_table.specs.Table.{recordAt, rightLengths, isSound, holder, freePlace, isIn, hasRoom, position, unmarked, unmarkedAll, recordOf}
+use Rattle.rollcall_table.specs.Table.{one, recordAt, rightLengths, isSound, holder, freePlace, isIn, hasRoom, position, unmarked, unmarkedAll, recordOf}
 
 -- ---- what an answer says
 
@@ -28,9 +28,9 @@ altitudeValues (Known (pos n)) = 1 ∷ 0 ∷ n ∷ []
 altitudeValues (Known (negsuc n)) = 1 ∷ 1 ∷ suc n ∷ []
 altitudeValues Missing = 0 ∷ []
 
--- The answer that an altitude and a time were found.
-abbrev pub found : Reading → ℕ → Outcome
-found z t = answer 4 (t ∷ altitudeValues z)
+-- The answer that a record was found: whether it is live, its address, its time and its altitude.
+abbrev pub found : Record → Outcome
+found r = answer 4 (one (r .live) ∷ r .address ∷ r .time ∷ altitudeValues (r .altitude))
 
 abbrev pub absent : Outcome
 absent = answer 5 []
@@ -41,7 +41,7 @@ said R.Cleared = done
 said R.Added = answer 1 []
 said R.Renewed = answer 2 []
 said R.Removed = answer 3 []
-said (R.Found r) = found (r .altitude) (r .time)
+said (R.Found r) = found r
 said R.Absent = absent
 said (R.Refused n) = refusal n
 
@@ -98,7 +98,7 @@ clearRecords rs ps = kept (clearOutcome rs ps) rs (unmarkedAll rs)
 unfoldable pub findOutcome : List Record → List ℕ → ℕ → ℕ → Outcome
 findOutcome rs ps n a =
     checked rs ps n a
-    (cond (isIn rs a) (found (recordAt rs (holder rs a) .altitude) (recordAt rs (holder rs a) .time)) absent)
+    (cond (isIn rs a) (found (recordAt rs (holder rs a))) absent)
 
 -- ---- remove
 
