@@ -14,8 +14,7 @@ use borrow.Fn.Kinds.{pNum, pBool, rNum, rBool, rUnit}
 use borrow.Kind.MutSlice.{pMutS}
 use borrow.Kind.ShrSlice.{pShrS}
 use Rattle.rollcall_plans.specs.declared.Rolled.the-variants.{Refused, Cleared}
-use Rattle.rollcall_table.specs.Table.{blank, recordAt, placeAt, one, liveIn, isNext, inOrder, isSound, rightLengths, holds, freePlace, below}
-use Rattle.rollcall_table.specs.Table.{unmarked, unmarkedAll, recordOf}
+use Rattle.rollcall_table.specs.Table.{blank, recordAt, placeAt, one, liveIn, isNext, inOrder, isSound, rightLengths, holds, freePlace, below, unmarked, unmarkedAll, recordOf}
 use Rattle.rollcall_plans.specs.Calls.{said, clearOutcome, clearCount, clearRecords, findOutcome, removeOutcome, removeCount, removeRecords, removePlaces, addOutcome, addCount, addRecords, addPlaces}
 use Rattle.rollcall_table.specs.Checks.{orderedTo, smallerOf, isRight, verdictOf}
 use Rattle.rollcall_plans.specs.Plans.{nowhereOf, spotAt, spotOf, foundBy, removalOf, additionOf, rearranged}

@@ -1,9 +1,8 @@
 // The roll-call table: lent records, one per aircraft, and beside them the lent list of the live ones' places by ascending
 // address, with its count, which is passed in and returned.
 //
-// A call reads the table first and decides what to change (locate, then plans.rt, by value), and then changes it (apply). So
-// few functions touch the records, and each does one thing.
-ghost use Prim.Native.Nat.{_≤_};
+// A call reads the table first and decides what to change (locate, then rollcall_plans, by value), and then changes it
+// (apply). So few functions touch the records, and each does one thing. Their proofs go by the rules of the crate walks.
 ghost use mathlib.Core.Path.{_≡_};
 ghost use Rattle.rollcall_plans.specs.Calls.{said, clearOutcome, clearCount, clearRecords, findOutcome, removeOutcome, removeCount, removeRecords, removePlaces, addOutcome, addCount, addRecords, addPlaces};
 

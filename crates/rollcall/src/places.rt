@@ -1,4 +1,4 @@
-// The list of places.
+// The list of places: read at a position, opened for a new place, and closed over one that leaves.
 ghost use Prim.Native.Nat.{_+_, _-_, _≤_, _<_};
 ghost use mathlib.Core.Path.{_≡_};
 ghost use lib.ListN.{length};
@@ -7,6 +7,7 @@ ghost use Rattle.rollcall_plans.specs.Calls.{opened as openedAt, closed as clos
 ghost use Rattle.rollcall_plans.specs.Plans.{rearranged};
 use rollcall_plans::Plan;
 
+// The place listed at k; past the end 0.
 pub(crate) fn place_at(places: &[u16], k: usize) -> usize
     ensures { λ p. ⌜ p ≡ placeAt (now (places .entry)) k ⌝ }
 {

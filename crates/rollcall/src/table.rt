@@ -3,8 +3,7 @@ ghost use Prim.Native.Nat.{_≤_};
 ghost use mathlib.Core.Path.{_≡_};
 ghost use mathlib.Core.Bool.{true};
 ghost use lib.ListN.{length, set, take};
-ghost use Rattle.rollcall_table.specs.Table.{recordAt, placeAt, liveIn, inOrder, isSound, freePlace, below};
-ghost use Rattle.rollcall_table.specs.Table.{unmarkedAll, recordOf};
+ghost use Rattle.rollcall_table.specs.Table.{recordAt, placeAt, liveIn, inOrder, isSound, freePlace, below, unmarkedAll, recordOf};
 ghost use Rattle.rollcall_table.specs.Checks.{orderedTo, verdictOf};
 ghost use Rattle.rollcall_plans.specs.Plans.{spotOf, additionOf, rearranged};
 use crate::halving;
@@ -14,6 +13,7 @@ use rollcall_plans::Spot;
 use rollcall_table::Record;
 use rollcall_table::Sighting;
 
+// The record at a place; past the end a blank one.
 pub(crate) fn get(records: &[Record], i: usize) -> Record
     ensures { λ r. ⌜ r ≡ recordAt (now (records .entry)) i ⌝ }
 {
@@ -42,6 +42,7 @@ fn listed(records: &[Record], places: &[u16], k: usize) -> Record
 
 // ---- along the records
 
+// How many are live.
 fn live_count(records: &[Record]) -> usize
     ensures { λ n. ⌜ n ≡ liveIn (now (records .entry)) ⌝ }
 {
@@ -70,6 +71,7 @@ pub(crate) fn free_place(records: &[Record]) -> usize
     i
 }
 
+// Unsets every live mark.
 pub(crate) fn unmark_all(records: &mut [Record])
     ensures { λ _. ⌜ now (records .exit) ≡ unmarkedAll (now (records .entry)) ⌝ }
 {
@@ -130,6 +132,7 @@ fn check(records: &[Record], places: &[u16], count: usize, address: u32) -> u32
     rollcall_table::verdict(right, address)
 }
 
+// Where an address stands, or why the call is refused.
 pub(crate) fn locate(records: &[Record], places: &[u16], count: usize, address: u32) -> Spot
     ensures { λ s. ⌜ s ≡ spotOf (now (records .entry)) (now (places .entry)) count address ⌝ }
 {
@@ -155,6 +158,7 @@ pub(crate) fn planned(records: &[Record], places: &[u16], count: usize, s: Sight
     rollcall_plans::addition(spot, free, records.len(), count, r)
 }
 
+// Changes what a plan says.
 pub(crate) fn apply(records: &mut [Record], places: &mut [u16], p: Plan)
     requires { ⌜ ((p .at ≤ p .opened) × (p .opened ≤ length (now places))) × ((p .at ≤ p .closed) × (p .closed ≤ length (now places))) ⌝ }
     ensures { λ _. ⌜ (now (records .exit) ≡ set (now (records .entry)) (p .place) (p .entry)) × (now (places .exit) ≡ rearranged p (now (places .entry))) ⌝ }

@@ -18,10 +18,10 @@ use Rattle.rollcall_table.specs.declared.Record.{Record}
 use Rattle.rollcall_table.specs.declared.Sighting.{Sighting}
 use Rattle.rollcall_table.specs.Table.{one, blank, recordAt, rightLengths, isSound, holds, holder, freePlace, isIn, hasRoom, unmarked, unmarkedAll, recordOf}
 use Rattle.rollcall_table.proofs.Laws.{of-parts, sound-parts, lengths-right, live-within, free-is, free-first, in-holds, holds-in, holds-parts, alone}
-use Rattle.rollcall_plans.specs.Calls.{altitudeValues, found, absent, kept, clearOutcome, clearRecords, findOutcome, removeOutcome, removeRecords, addOutcome, addRecords}
+use Rattle.rollcall_plans.specs.Calls.{altitudeValues, found, absent, kept, clearOutcome, clearRecords, findOutcome, removeOutcome, removeCount, removeRecords, removePlaces, addOutcome, addRecords}
 use Rattle.rollcall_meaning.specs.Maps.{Value, valueOf, mapOf, recordFor, told, isSome, Table, outcome, after}
 use Rattle.rollcall_meaning.specs.Maps.Call.{clear, add, remove, find}
-use Rattle.rollcall_meaning.specs.Keeping.{SoundTable, RightLengths, FindGives, AbsentWhereNothing, AddPuts, AddedOrRenewed, FullExactly, RemoveTakesOut, ClearEmpties, ClearUnsetsMarks, RemoveUnsetsMark, AddChangesOne}
+use Rattle.rollcall_meaning.specs.Keeping.{SoundTable, RightLengths, FindGives, AbsentWhereNothing, AbsentChangesNothing, AddPuts, AddedOrRenewed, FullExactly, RemoveTakesOut, ClearEmpties, ClearUnsetsMarks, RemoveUnsetsMark, AddChangesOne}
 use Rattle.rollcall_meaning.proofs.Mapping.{map-is, map-none, some-in, none-in, put-map, remove-map, clear-map}
 
 -- ---- the checks that a word of 24 bits and a sound table pass
@@ -80,6 +80,29 @@ absent-where-nothing t a s h = (
     not-in : (i : Bool) → cond i (answer 3 []) absent ≡ absent → i ≡ false
     not-in true e = let z : _≡_ {A = ℕ} 3 5 = same-answer e in absurd (omega arith)
     not-in false e = refl
+
+-- what stands after a removal that answers 'absent'
+stays : {X : Type 0} (w t i : Bool) (x y : X) → unless w 3 (unless t 8 (cond i (answer 3 []) absent)) ≡ absent → kept (unless w 3 (unless t 8 (cond i (answer 3 []) absent))) x (cond i y x) ≡ x
+stays true true true x y e = let z : _≡_ {A = ℕ} 3 5 = same-answer e in absurd (omega arith)
+stays true true false x y e = refl
+stays true false i x y e = refl
+stays false t i x y e = refl
+
+pub absent-changes-nothing : AbsentChangesNothing
+unfolding AbsentChangesNothing outcome after removeRecords removePlaces removeCount removeOutcome
+absent-changes-nothing t a = ((λ e. same (t .records) _ (t .places) _ (t .count) _ (stays w s i (t .records) _ e) (stays w s i (t .places) _ e) (stays w s i (t .count) _ e)), refl)
+  where
+    w : Bool
+    w = isWord a
+
+    s : Bool
+    s = isSound (t .records) (t .places) (t .count)
+
+    i : Bool
+    i = isIn (t .records) a
+
+    same : (rs rs′ : List Record) (ps ps′ : List ℕ) (n n′ : ℕ) → rs′ ≡ rs → ps′ ≡ ps → n′ ≡ n → _≡_ {A = Table} (record { records = rs′; places = ps′; count = n′ }) (record { records = rs; places = ps; count = n })
+    same rs rs′ ps ps′ n n′ x y z = cc
 
 -- ---- add or renew
 

@@ -2,5 +2,5 @@
 pub use Rattle.rollcall_meaning.proofs.Refusing.{lengths-wrong, wrong-lengths, unsound, not-sound, no-place, place-none, clear-leaves, add-leaves, remove-leaves}
 -- ---- end theorems, which no proof cites
 pub use Rattle.rollcall_meaning.proofs.Sounding.{checked-is-sound, keeps-sound, clear-mends, none-live-twice}
-pub use Rattle.rollcall_meaning.proofs.Changing.{find-gives, absent-where-nothing, add-puts, added-or-renewed, full-exactly, remove-takes-out, clear-empties, clear-unsets-marks, remove-unsets-mark, add-changes-one}
+pub use Rattle.rollcall_meaning.proofs.Changing.{find-gives, absent-where-nothing, absent-changes-nothing, add-puts, added-or-renewed, full-exactly, remove-takes-out, clear-empties, clear-unsets-marks, remove-unsets-mark, add-changes-one}
 pub use Rattle.rollcall_meaning.proofs.Running.{answers-of-a-plain-map}

@@ -54,6 +54,10 @@ AbsentWhereNothing =
     (t : Table) (a : ℕ) → SoundTable t → a ≤ 0xFFFFFF
     → ((outcome (find a) t ≡ absent) ↔ (mapOf (t .records) a ≡ none)) × ((outcome (remove a) t ≡ absent) ↔ (mapOf (t .records) a ≡ none))
 
+-- 'Finding or removing an address that is not live is answered 'absent' and changes nothing.' Find changes nothing ever.
+unfoldable pub AbsentChangesNothing : Type 0
+AbsentChangesNothing = (t : Table) (a : ℕ) → (outcome (remove a) t ≡ absent → after (remove a) t ≡ t) × (after (find a) t ≡ t)
+
 -- 'Renewing an address replaces its altitude and time'; adding or renewing that is not refused changes the map at that
 -- address alone.
 unfoldable pub AddPuts : Type 0

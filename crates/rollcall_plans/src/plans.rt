@@ -11,6 +11,7 @@ use rollcall_table::lowered;
 use rollcall_table::raised;
 use rollcall_table::unmarked;
 
+// The spot of a refused call.
 pub fn nowhere(refusal: u32, length: usize) -> Spot
     ensures { λ s. ⌜ s ≡ nowhereOf refusal length ⌝ }
 {
@@ -23,6 +24,7 @@ pub fn nowhere(refusal: u32, length: usize) -> Spot
     }
 }
 
+// The spot of an address that is live, or is not.
 pub fn spot_at(present: bool, at: usize, place: usize, r: Record, length: usize) -> Spot
     ensures { λ s. ⌜ s ≡ spotAt present at place r length ⌝ }
 {
@@ -45,6 +47,7 @@ pub fn spot_at(present: bool, at: usize, place: usize, r: Record, length: usize)
     }
 }
 
+// The reply of a refused call; the count is as passed in.
 pub fn refused(refusal: u32, count: usize) -> Reply
     ensures { λ r. ⌜ (r .answer ≡ Rolled.Refused refusal) × (r .count ≡ count) ⌝ }
 {
@@ -54,6 +57,7 @@ pub fn refused(refusal: u32, count: usize) -> Reply
     }
 }
 
+// The reply of a table that was cleared.
 pub fn cleared() -> Reply
     ensures { λ r. ⌜ (r .answer ≡ Rolled.Cleared) × (r .count ≡ 0) ⌝ }
 {
@@ -63,6 +67,7 @@ pub fn cleared() -> Reply
     }
 }
 
+// The reply of find; the count is as passed in.
 pub fn found(s: Spot, count: usize) -> Reply
     ensures { λ r. ⌜ (r .answer ≡ foundBy s) × (r .count ≡ count) ⌝ }
 {
@@ -87,6 +92,7 @@ fn found_by(s: Spot) -> Rolled
     }
 }
 
+// A plan that changes nothing: its place is past the end, and no part of the list moves.
 fn idle(answer: Rolled, count: usize, length: usize) -> Plan
     ensures { λ p. ⌜ p ≡ idleOf answer count length ⌝ }
 {
@@ -101,6 +107,7 @@ fn idle(answer: Rolled, count: usize, length: usize) -> Plan
     }
 }
 
+// What remove is to change.
 pub fn removal(s: Spot, count: usize) -> Plan
     ensures { λ p. ⌜ p ≡ removalOf s count ⌝ }
 {
@@ -124,6 +131,7 @@ pub fn removal(s: Spot, count: usize) -> Plan
     }
 }
 
+// What adding or renewing is to change: row 9 is asked last.
 pub fn addition(s: Spot, free: usize, length: usize, count: usize, r: Record) -> Plan
     ensures { λ p. ⌜ p ≡ additionOf s free length count r ⌝ }
 {
@@ -152,6 +160,7 @@ fn renewal(place: usize, count: usize, r: Record) -> Plan
     }
 }
 
+// A new address enters at the lowest free place.
 fn entrance(at: usize, free: usize, length: usize, count: usize, r: Record) -> Plan
     ensures { λ p. ⌜ p ≡ entranceOf at free length count r ⌝ }
 {
@@ -170,18 +179,21 @@ fn entrance(at: usize, free: usize, length: usize, count: usize, r: Record) -> P
     }
 }
 
+// The place that a plan writes to.
 pub fn place_of(p: Plan) -> usize
     ensures { λ n. ⌜ n ≡ p .place ⌝ }
 {
     p.place
 }
 
+// The record that a plan writes.
 pub fn entry_of(p: Plan) -> Record
     ensures { λ r. ⌜ r ≡ p .entry ⌝ }
 {
     p.entry
 }
 
+// The reply of a plan that is carried out.
 pub fn reply_of(p: Plan) -> Reply
     ensures { λ r. ⌜ (r .answer ≡ p .answer) × (r .count ≡ p .count) ⌝ }
 {

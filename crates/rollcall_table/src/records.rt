@@ -10,6 +10,7 @@ use crate::Reading;
 use crate::Record;
 use crate::Sighting;
 
+// What stands where there is no record.
 pub fn blank() -> Record
     ensures { λ r. ⌜ r ≡ blankRecord ⌝ }
 {
@@ -34,6 +35,7 @@ pub fn unmarked(r: Record) -> Record
     }
 }
 
+// Whether a place has no live record.
 pub fn is_free(r: Record) -> bool
     ensures { λ b. ⌜ b ≡ not (r .live) ⌝ }
 {
@@ -47,12 +49,14 @@ pub fn tally(r: Record) -> usize
     if r.live { 1 } else { 0 }
 }
 
+// The address of a sighting.
 pub fn address_of(s: Sighting) -> u32
     ensures { λ a. ⌜ a ≡ s .address ⌝ }
 {
     s.address
 }
 
+// The live record of a sighting.
 pub fn record_of(s: Sighting) -> Record
     ensures { λ r. ⌜ r ≡ recordOf s ⌝ }
 {
@@ -81,12 +85,14 @@ pub fn after(r: Record) -> usize
     address + 1
 }
 
+// The smaller of two numbers.
 pub fn smaller(m: usize, n: usize) -> usize
     ensures { λ r. ⌜ r ≡ smallerOf m n ⌝ }
 {
     if m < n { m } else { n }
 }
 
+// Row 8 of the refusals, what it says of the lengths.
 pub fn are_wrong(records: usize, places: usize) -> bool
     ensures { λ b. ⌜ b ≡ not (rightLengths records places) ⌝ }
 {
@@ -117,6 +123,7 @@ pub fn verdict(right: bool, address: u32) -> u32
     }
 }
 
+// Whether the check gave a row's number.
 pub fn is_refused(refusal: u32) -> bool
     ensures { λ b. ⌜ b ≡ not (eqb refusal 0) ⌝ }
 {
@@ -130,12 +137,14 @@ pub fn is_there(at: usize, r: Record, count: usize, address: u32) -> bool
     (at < count) & (r.live & (r.address == address))
 }
 
+// The count after a removal.
 pub fn lowered(count: usize) -> usize
     ensures { λ n. ⌜ n ≡ count - 1 ⌝ }
 {
     if 0 < count { count - 1 } else { 0 }
 }
 
+// The count after a new address.
 pub fn raised(count: usize) -> usize
     ensures { λ n. ⌜ n ≡ raisedOf count ⌝ }
 {

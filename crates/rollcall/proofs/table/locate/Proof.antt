@@ -5,8 +5,7 @@ use mir.Syntax.{w32}
 use lib.Dec.{eqb}
 use borrow.Author.Tests.{not-true, not-false}
 use Rattle.rollcall_table.specs.Table.{isSound}
-use Rattle.rollcall_table.proofs.Laws.{parts}
-use Rattle.rollcall_table.proofs.Laws.{unrefused}
+use Rattle.rollcall_table.proofs.Laws.{parts, unrefused}
 use Rattle.rollcall_plans.proofs.Laws.{spot-refused, spot-passed, spot-there}
 use Rattle.rollcall.proofs.Kit.{ℕ, _+_, _≤_, refl, sym, ap, _∙_, subst, List, [], _∷_, _++_, URA, Ty, named, w64, tyInt, tyBool, Heap, Tables, Atoms, Given, Lfts, Shares, givenOf, now, Over, World, bAt, vAt, spares-sslice, reads-sslice, reads-sc, sInt, sBool, Rec, U16, recOne, recCopy, Knows, gone, used, held, immTo, flag, immS, keeps, _⟫_, meet, free, branch, calls, count, sets, skips, returns, Walked, Asked, homes, known, by-walk}
 use Rattle.rollcall.proofs.Sigs.{checkS, isRefusedS, nowhereS, searchS, placeAtS, getS, isThereS, spotAtS, locateS}
