@@ -11,7 +11,7 @@ use crate::{
     altitude_lines, antennas_lines, calls, calls_kinds, calls_lines, fast_calls, fast_sift,
     hit_replies, selftest,
 };
-use crate::{sift, sift_kinds, sift_lines};
+use crate::{roster, roster_kinds, roster_lines, sift, sift_kinds, sift_lines};
 use std::path::Path;
 use std::time::Instant;
 
@@ -30,7 +30,7 @@ const SEED: u64 = 0x01FF_F409;
 /// lines are counted in the tally.
 type Expected = fn(&mut Tally, &[u8], &[Option<Aim>]) -> Vec<u8>;
 
-/// What belongs to one of the two programs.
+/// What belongs to one of the programs.
 struct Subject {
     name: &'static str,
     any_line: fn(&mut Random) -> Vec<u8>,
@@ -76,6 +76,20 @@ const CALLS: Subject = Subject {
         let input = selftest::lines_for_fast_calls(input);
         first_difference(&input, &calls::output(&input), &fast_calls::output(&input))
     },
+};
+
+const ROSTER: Subject = Subject {
+    name: "roster",
+    any_line: roster_lines::any_line,
+    once: roster_lines::all,
+    round: roster_lines::round,
+    groups: roster_kinds::groups,
+    expected: |tally, input, aims| {
+        roster::output_and_show(input, |k, met| {
+            roster_kinds::count(tally, met, aims.get(k).and_then(Option::as_ref));
+        })
+    },
+    fast_difference: |_, _| None,
 };
 
 /// The state of the comparison with one program.
@@ -193,6 +207,21 @@ fn compare_program(subject: &Subject, program: &Path) -> bool {
     comparison.report(start.elapsed().as_secs_f64())
 }
 
+fn say(equal: bool) {
+    println!(
+        "{}",
+        if equal { "equal, and every kind was tried" } else { "NOT EQUAL, or not all tried" }
+    );
+}
+
+/// Compares a program that runs the calls of the roll-call table; true if all is
+/// right and every kind was tried.
+pub fn compare_roster(roster: &Path) -> bool {
+    let equal = compare_program(&ROSTER, roster);
+    say(equal);
+    equal
+}
+
 /// Compares both programs, and holds `sift` to what was sent; true if all is
 /// right and every kind was tried.
 pub fn compare(calls: &Path, sift: &Path) -> Result<bool, String> {
@@ -200,9 +229,6 @@ pub fn compare(calls: &Path, sift: &Path) -> Result<bool, String> {
     let mut equal = compare_program(&SIFT, sift);
     equal &= hit_replies::hold(sift);
     equal &= compare_program(&CALLS, calls);
-    println!(
-        "{}",
-        if equal { "equal, and every kind was tried" } else { "NOT EQUAL, or not all tried" }
-    );
+    say(equal);
     Ok(equal)
 }

@@ -1,18 +1,20 @@
 //! The command line: see `USAGE`.
 
-use crosscheck::{calls, compare, limit, selftest, sift, speed};
+use crosscheck::{calls, compare, limit, roster, selftest, sift, speed};
 use std::io::{Read, Write};
 use std::path::Path;
 use std::process::ExitCode;
 
 const USAGE: &str = "\
 crosscheck compare CALLS SIFT   compare the built programs with the reference
+crosscheck compare ROSTER       the same of a program that runs the calls of the roll-call table
 crosscheck limit FOLDER         simulate what the density limit costs; table and pictures
 crosscheck limit FOLDER second=P missed=P near=P elsewhere=P
                                 the same for one model of your own, each P in percent
 crosscheck speed SIFT CALLS     measure the built programs against programs written for speed
 crosscheck selftest             check the reference and the fast programs
-crosscheck answer sift|calls    answer standard input as the reference does
+crosscheck answer sift|calls|roster
+                                answer standard input as the reference does
 ";
 
 /// Answers standard input as the named program has to.
@@ -20,6 +22,7 @@ fn answer(name: &str) -> Result<(), String> {
     let output = match name {
         "sift" => sift::output,
         "calls" => calls::output,
+        "roster" => roster::output,
         _ => return Err(USAGE.to_string()),
     };
     let mut input = Vec::new();
@@ -30,6 +33,7 @@ fn answer(name: &str) -> Result<(), String> {
 fn run(arguments: &[&str]) -> Result<bool, String> {
     match arguments {
         ["compare", calls, sift] => compare::compare(Path::new(calls), Path::new(sift)),
+        ["compare", roster] => Ok(compare::compare_roster(Path::new(roster))),
         ["limit", folder] => limit::limit(Path::new(folder)).map(|()| true),
         ["limit", folder, numbers @ ..] => {
             limit::limit_of_own(Path::new(folder), numbers).map(|()| true)

@@ -104,12 +104,17 @@ impl Tally {
 #[cfg(test)]
 mod tests {
     use super::*;
-    use crate::{calls_kinds, hit_replies, sift_kinds};
+    use crate::{calls_kinds, hit_replies, roster_kinds, sift_kinds};
 
     /// A name that stood twice would be counted once.
     #[test]
     fn every_kind_is_named_once() {
-        for groups in [sift_kinds::groups(&[]), calls_kinds::groups(&[]), hit_replies::groups()] {
+        for groups in [
+            sift_kinds::groups(&[]),
+            calls_kinds::groups(&[]),
+            roster_kinds::groups(&[]),
+            hit_replies::groups(),
+        ] {
             for (index, group) in groups.iter().enumerate() {
                 assert!(groups[..index].iter().all(|other| other.name != group.name));
                 let mut kinds = group.required.clone();
