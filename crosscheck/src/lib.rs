@@ -37,6 +37,7 @@
 //! - `simulate`, `svg`, `picture`, `limit`: what the density limit costs;
 //! - `fast`, `fast_sift`, `fast_calls`, `speed`: programs written for speed, and the
 //!   measurement against them;
+//! - `speed_roster`: what a call on the roll-call table costs;
 //! - `selftest`: the checks of this program on itself.
 
 pub mod altitude;
@@ -75,6 +76,7 @@ pub mod sift_lines;
 pub mod simulate;
 pub mod solve;
 pub mod speed;
+pub mod speed_roster;
 pub mod svg;
 pub mod tally;
 pub mod text;

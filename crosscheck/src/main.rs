@@ -1,6 +1,6 @@
 //! The command line: see `USAGE`.
 
-use crosscheck::{calls, compare, limit, roster, selftest, sift, speed};
+use crosscheck::{calls, compare, limit, roster, selftest, sift, speed, speed_roster};
 use std::io::{Read, Write};
 use std::path::Path;
 use std::process::ExitCode;
@@ -12,6 +12,7 @@ crosscheck limit FOLDER         simulate what the density limit costs; table and
 crosscheck limit FOLDER second=P missed=P near=P elsewhere=P
                                 the same for one model of your own, each P in percent
 crosscheck speed SIFT CALLS     measure the built programs against programs written for speed
+crosscheck speed ROSTER         measure a call on the roll-call table beside a map of the standard library
 crosscheck selftest             check the reference and the fast programs
 crosscheck answer sift|calls|roster
                                 answer standard input as the reference does
@@ -39,6 +40,7 @@ fn run(arguments: &[&str]) -> Result<bool, String> {
             limit::limit_of_own(Path::new(folder), numbers).map(|()| true)
         }
         ["speed", sift, calls] => speed::speed(Path::new(sift), Path::new(calls)).map(|()| true),
+        ["speed", roster] => speed_roster::speed(Path::new(roster)).map(|()| true),
         ["selftest"] => selftest::run_all().map(|()| true),
         ["answer", name] => answer(name).map(|()| true),
         _ => Err(USAGE.to_string()),

@@ -79,7 +79,7 @@ fn field_input(way: &str) -> Vec<u8> {
 }
 
 /// The seconds a program takes for a file.
-fn seconds(program: &Path, file: &TemporaryFile) -> Result<f64, String> {
+pub(crate) fn seconds(program: &Path, file: &TemporaryFile) -> Result<f64, String> {
     let input = file.open()?;
     let start = Instant::now();
     let status = Command::new(program)
@@ -95,7 +95,7 @@ fn seconds(program: &Path, file: &TemporaryFile) -> Result<f64, String> {
     }
 }
 
-fn median(mut values: Vec<f64>) -> f64 {
+pub(crate) fn median(mut values: Vec<f64>) -> f64 {
     values.sort_by(f64::total_cmp);
     values[values.len() / 2]
 }
