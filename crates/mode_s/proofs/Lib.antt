@@ -1,0 +1,3 @@
+-- The laws of the packing.
+pub mod Packing
+pub mod Laws
