@@ -20,6 +20,7 @@ use Rattle.outcome.specs.Refusals.{wordTooLarge, firstBitContradicts}
 use Rattle.outcome.proofs.Laws.{refusal-is-no-answer, same-answer, positive}
 use Rattle.message.specs.Message.{number, Bytes, field, formatNumber, firstBit, firstBitAgrees, isMessageLength, isWord}
 use Rattle.message.specs.Bits.{place, numberBytes, inverted}
+use Rattle.notices.proofs.Laws.{ones-shl}
 use Rattle.division.specs.Polynomial.{polynomial, downwards, product}
 use Rattle.division.specs.Division.{generator, generatorPowers, reduce, divide, quotient, remainder, parity, overlay, addressRead, ReadsAs, Carries}
 use Rattle.encoder.specs.Seals.{wordBytes, withParity, replyParity, interrogationParity, replySeal, interrogationSeal, sealOutcome, replyAfter, interrogationAfter}
@@ -27,6 +28,8 @@ use Rattle.transponder.specs.Receptions.{receptionOf, isReserved, receptionOutc
 use Rattle.transponder.specs.declared.Reception.the-variants.{Own, AllCall, Broadcast, NotOurs}
 use Rattle.sensor.specs.Changes.{OnLow, Fit, marksAt, lowMarks}
 use Rattle.sensor.specs.Verdicts.{soleMark, severalMark, cleanAnswer, denseAnswer, noFitAnswer, correctedAnswer, syndrome, decisionOf, checked, sensorOutcome, sensorAfter}
+use Rattle.mode_s.specs.Packing.{parts, packed}
+use Rattle.mode_s.specs.Packing.Source.{sensor}
 use Rattle.antennas.specs.Antennas.{antennaOf, Part}
 use Rattle.antennas.specs.declared.Antenna.the-variants.{Upper, Lower, Neither, Refused}
 use Rattle.conformance.specs.Refusals.{row, Wrong, handed, outcome, Breaks, SomeBreaks, Applies}
@@ -37,6 +40,8 @@ use Rattle.conformance.specs.Accepting.{SaysNotOurs, BurstNeverOwn}
 use Rattle.conformance.specs.Correcting.{Judged, IsDense, LowestDense, NoneDense, LowestFit, OnlyChange, AnotherChange, Right, OnlyOneIsRight, OthersLeave, HitReply}
 use Rattle.conformance.specs.Correcting.Right.{clean, dense, noFit, sole, several}
 use Rattle.conformance.specs.Antennas.{Permitted, TakenIsAccepted, SaysUpper, SaysLower, returned, IsField, Apart, UpperPart, BurstNeverDisplaces}
+use Rattle.conformance.specs.Packing.{numberOf}
+use Rattle.conformance.specs.Packing.FromC.{correct}
 use Rattle.conformance.proofs.Refusals.{decision-final}
 use Rattle.conformance.proofs.Sealing.{carries-reply}
 use Rattle.conformance.proofs.Accepting.{says-not-ours, burst-never-own}
@@ -395,3 +400,25 @@ unfolding HitReply Message
 reply-met =
     hit-reply unsealed marks 0x123456 24 0 (2 ^ 39) (message .0 .0) (sealed .0) reply-burst reply-marks
     (subst (λ (m : List ℕ). Judged m marks 0x123456 24) (sym as-hit) (calls .3))
+
+-- ---- the numbers that these calls give in C (proofs/PackingInstances.antt has those of the other answers)
+
+one-of : (k : ℕ) → ones (2 ^ k) ≡ 1
+unfolding ones onesIn
+one-of k = ap ones (sym (one-mul (2 ^ k))) ∙ ones-shl 1 k
+
+numbers-met : (numberOf (correct sent empty 0x123456 24) ≡ 0x0000000000000007)
+    × (numberOf (correct hit marks 0x123456 0) ≡ 0x0000000000000008)
+    × (numberOf (correct hit empty 0x123456 24) ≡ 0x0000000000000009)
+    × (numberOf (correct hit marks 0x123456 24) ≡ 0x000000010001000A)
+    × (numberOf (correct two-changes two-marks 0x000000 24) ≡ 0x000000010802000A)
+unfolding OnlyOneIsRight packed parts
+numbers-met = (
+  ap (packed sensor) (sym (only-one-is-right sent empty 0x123456 24 (calls .0) _ _ clean-met .0)),
+  ap (packed sensor) (sym (only-one-is-right hit marks 0x123456 0 (calls .1) _ _ dense-met .0)),
+  ap (packed sensor) (sym (only-one-is-right hit empty 0x123456 24 (calls .2) _ _ no-fit-met .0)),
+  ap (packed sensor) (sym (only-one-is-right hit marks 0x123456 24 (calls .3) _ _ sole-met .0))
+      ∙ ap (λ (n : ℕ). packed sensor (correctedAnswer 0 n soleMark)) (one-of 39),
+  ap (packed sensor) (sym (only-one-is-right two-changes two-marks 0x000000 24 (calls .4) _ _ several-met .0))
+      ∙ ap (λ (n : ℕ). packed sensor (correctedAnswer 8 n severalMark)) (one-of 24),
+)

@@ -8,7 +8,9 @@ pub mod Correcting
 pub mod Noticing
 pub mod Altitudes
 pub mod Antennas
+pub mod Packing
 pub mod Bench
 pub mod Instances
 pub mod AltitudeInstances
 pub mod NoticingInstances
+pub mod PackingInstances

@@ -8,4 +8,5 @@ pub mod Correcting
 pub mod Noticing
 pub mod Altitudes
 pub mod Antennas
+pub mod Packing
 pub mod Bench

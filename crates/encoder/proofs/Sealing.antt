@@ -48,6 +48,15 @@ was-accepted m w e =
     let third = unless-answer (firstBitAgrees m) firstBitContradicts _ 0 [] (second .1) in
     (first .0, word-lt w (second .0), third .0)
 
+-- a seal that was answered was done
+pub answered-done : (m : List ℕ) (w n : ℕ) (vs : List ℕ) → sealOutcome m w ≡ answer n vs → sealOutcome m w ≡ done
+unfolding sealOutcome
+answered-done m w n vs e =
+    let first = unless-answer (isMessageLength (length m)) wrongLength _ n vs e in
+    let second = unless-answer (isWord w) wordTooLarge _ n vs (first .1) in
+    let third = unless-answer (firstBitAgrees m) firstBitContradicts _ n vs (second .1) in
+    e ∙ sym (third .1)
+
 -- ---- the parity field
 
 pub three-set : (p : List ℕ) (x y z : ℕ) → length p ≡ 3 → set (set (set p 0 x) 1 y) 2 z ≡ x ∷ y ∷ z ∷ []
