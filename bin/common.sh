@@ -5,10 +5,18 @@
 # program whose check failed stands in target/bin too. Hence a stamp of this file's own, target/checked/NAME, written when
 # the check has passed: a hash of the files that went into the check, one of the program, and the toolchain's version. All
 # go by content, so that a file that was only touched costs no check.
+#
+# bin/install copies this file too, with the scripts and the programs. Beside it then stands `installed`, which says what was
+# installed and has each program's hash: there is nothing to check, and a program that is not the one installed is not run.
 
-root=$(cd "$(dirname "$(readlink -f "${BASH_SOURCE[0]}")")/.." && pwd -P) || exit 3
+here=$(cd "$(dirname "$(readlink -f "${BASH_SOURCE[0]}")")" && pwd -P) || exit 3
+root=${here%/*}
 program=$root/target/bin/$name
 stamp=$root/target/checked/$name
+installed=$here/installed
+[ ! -f "$installed" ] || program=$here/programs/$name
+# the command that proves and builds $program
+build=(rt check "$name")
 
 say() { printf '%s: %s\n' "$name" "$*" >&2; }
 
@@ -46,7 +54,8 @@ state() {
     echo "toolchain $(rt version 2>/dev/null || sed -n 's/^toolchain //p' "$stamp")"
 }
 
-is_checked() { [ -x "$program" ] && [ -f "$stamp" ] && [ "$(state)" = "$(cat "$stamp")" ]; }
+is_built() { [ -x "$program" ]; }
+is_checked() { is_built && [ -f "$stamp" ] && [ "$(state)" = "$(cat "$stamp")" ]; }
 
 # Called when the program has just passed its check.
 write_stamp() { mkdir -p "${stamp%/*}" && state >"$stamp.new" && mv "$stamp.new" "$stamp"; }
@@ -62,19 +71,29 @@ check() {
     local before
     before=$(sources)
     rm -f "$stamp" "$program" "$root/target/stamp/$name"
-    if ! (cd "$root" && rt check "$name") </dev/null >&2; then
+    if ! (cd "$root" && "${build[@]}") </dev/null >&2; then
         say "the check failed, and the program was not run: see above"
         return 1
     fi
-    if [ ! -x "$program" ] || [ "$(sources)" != "$before" ]; then
+    if ! is_built || [ "$(sources)" != "$before" ]; then
         say "there is no program, or its files changed while it was checked: nothing was run"
         return 1
     fi
     write_stamp
 }
 
+is_installed() {
+    [[ $(cat "$installed") == *$'\n'"program $name $(sha256sum <"$program")"* ]] && return
+    say "$program is not the program that was installed: install it again"
+    return 1
+}
+
 # One check at a time: a second process waits and finds the first one's stamp.
 ensure_checked() {
+    if [ -f "$installed" ]; then
+        is_installed
+        return
+    fi
     is_checked && return
     mkdir -p "$root/target" || return
     {
@@ -85,6 +104,10 @@ ensure_checked() {
 
 version() {
     local commit changed=
+    if [ -f "$installed" ]; then
+        sed -n "s/^commit /$name, commit /p; s/^toolchain //p" "$installed"
+        return
+    fi
     if commit=$(git -C "$root" rev-parse --verify HEAD 2>/dev/null); then
         [ -z "$(git -C "$root" status --porcelain 2>/dev/null)" ] || changed=", with changes that are not committed"
     else
@@ -92,6 +115,15 @@ version() {
     fi
     echo "$name, commit $commit$changed"
     rt version 2>/dev/null || echo "rt is not on the path$(sed -n 's/^toolchain /; the program was checked with /p' "$stamp" 2>/dev/null)"
+}
+
+# An installed program is called by its name, and is built already.
+usage() {
+    if [ -f "$installed" ]; then
+        printf '%s\n' "$help" | sed "s|bin/$name|$name|; /^The first run has/d"
+    else
+        printf '%s\n' "$help"
+    fi
 }
 
 # Runs the program. It has no exit status of its own, so that what it says on standard error gives the script its 1.
@@ -112,7 +144,7 @@ serve() {
     case $#:${1-} in
     0:) ;;
     1:--help | 1:-h)
-        printf '%s\n' "$help"
+        usage
         exit
         ;;
     1:--version)
@@ -121,7 +153,7 @@ serve() {
         ;;
     *)
         say "it takes no argument but --help and --version"
-        printf '%s\n' "$help" >&2
+        usage >&2
         exit 2
         ;;
     esac
@@ -129,7 +161,7 @@ serve() {
     is_open 0 || { say "standard input is closed" && exit 1; }
     is_open 1 || { say "standard output is closed" && exit 1; }
     if [ -t 0 ]; then
-        printf '%s\n' "$help" >&2
+        usage >&2
         exit 2
     fi
     ensure_checked || exit 3

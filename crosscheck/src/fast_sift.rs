@@ -77,7 +77,7 @@ fn read(text: &[u8]) -> Option<(Request<'_>, &[u8])> {
 /// The remainder of 7 or 14 bytes: the first three as they stand, then a step
 /// of the table for each more.
 #[inline]
-fn remainder(message: &[u8]) -> u32 {
+pub fn remainder(message: &[u8]) -> u32 {
     let first = u32::from_be_bytes([0, message[0], message[1], message[2]]);
     message[3..].iter().fold(first, |rest, byte| {
         (rest << 8 & WORD | u32::from(*byte)) ^ REMAINDERS[(rest >> 16) as usize]
@@ -86,14 +86,14 @@ fn remainder(message: &[u8]) -> u32 {
 
 /// The number of `count` bytes that stand at the left of 16.
 #[inline]
-fn number_of(bytes: [u8; 16], count: usize) -> u128 {
+pub fn number_of(bytes: [u8; 16], count: usize) -> u128 {
     u128::from_be_bytes(bytes) >> (128 - 8 * count)
 }
 
 /// The lowest window with more than `limit` marks. From the first window on the
 /// count loses the bit that leaves and gains the one that enters.
 #[inline]
-fn dense_window(low: u128, windows: u32, limit: u32) -> Option<u32> {
+pub fn dense_window(low: u128, windows: u32, limit: u32) -> Option<u32> {
     if low.count_ones() <= limit {
         return None;
     }
@@ -117,7 +117,7 @@ fn dense_window(low: u128, windows: u32, limit: u32) -> Option<u32> {
 /// before is this one divided by x modulo G. An odd candidate does not lie in
 /// the window before, so what fits there is another change.
 #[inline]
-fn fits(low: u128, windows: u32, syndrome: u32) -> Option<(u32, u32, bool)> {
+pub fn fits(low: u128, windows: u32, syndrome: u32) -> Option<(u32, u32, bool)> {
     let mut candidate = syndrome;
     let mut found = None;
     let mut changes = 0;

@@ -39,6 +39,9 @@
 //!   measurement against them;
 //! - `speed_roster`: what a call on the roll-call table costs;
 //! - `selftest`: the checks of this program on itself.
+//!
+//! `c/`, a package of its own, links the C library and compares its calls with the
+//! reference.
 
 pub mod altitude;
 pub mod altitude_kinds;

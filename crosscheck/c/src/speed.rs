@@ -1,0 +1,106 @@
+//! The subcommand `speed`: nanoseconds a call of `mode_s_correct`, beside the
+//! same in Rust (the sensor of crosscheck's `fast_sift`), in one run on the same
+//! calls. Each call has its own copy of the message, made before the clock starts.
+
+use crate::library;
+use crosscheck::fast_sift::{dense_window, fits, number_of, remainder};
+use crosscheck::poly::{bits_of_bytes, bytes_of_bits};
+use crosscheck::random::Random;
+use crosscheck::rules::with_parity;
+use std::hint::black_box;
+use std::time::Instant;
+
+/// The calls of each kind, and the runs over them; the fastest run counts.
+const CALLS: usize = 10_000;
+const RUNS: usize = 201;
+
+#[derive(Clone)]
+struct Call {
+    message: [u8; 14],
+    confidence: [u8; 14],
+    word: u32,
+    limit: u32,
+}
+
+/// The sensor on 14 bytes in Rust, with the same number.
+fn correct_in_rust(call: &mut Call) -> u64 {
+    let syndrome = remainder(&call.message) ^ call.word;
+    if syndrome == 0 {
+        return 7;
+    }
+    let mut bytes = [0; 16];
+    bytes[..14].copy_from_slice(&call.confidence);
+    let low = number_of(bytes, 14);
+    if let Some(window) = dense_window(low, 89, call.limit) {
+        return u64::from(window) << 24 | 8;
+    }
+    match fits(low, 89, syndrome) {
+        None => 9,
+        Some((place, candidate, several)) => {
+            bytes[..14].copy_from_slice(&call.message);
+            let corrected = number_of(bytes, 14) ^ u128::from(candidate) << place;
+            call.message.copy_from_slice(&corrected.to_be_bytes()[2..]);
+            let (ones, window) = (u64::from(candidate.count_ones()), u64::from(88 - place));
+            ones << 32 | window << 24 | (1 + u64::from(several)) << 16 | 10
+        }
+    }
+}
+
+fn correct_in_c(call: &mut Call) -> u64 {
+    library::correct_slices(&mut call.message, &call.confidence, call.word, call.limit)
+}
+
+/// A long reply that carries its word, hit in eight bits of a window (unless it
+/// is to be clean), with these bits marked low, or others, and some more.
+fn call(random: &mut Random, kind: &str) -> Call {
+    let word = random.word();
+    let sent = bytes_of_bits(&with_parity(&bits_of_bytes(&random.bytes(11)), word));
+    let mut message: [u8; 14] = sent.try_into().expect("14 bytes");
+    let mut confidence = [0; 14];
+    let window = random.below(89);
+    for bit in random.choose(8, 24).into_iter().map(|bit| window + bit) {
+        let mask = 0x80 >> (bit % 8);
+        if kind != "clean" {
+            message[bit / 8] ^= mask;
+        }
+        if kind != "no fit" {
+            confidence[bit / 8] |= mask;
+        }
+    }
+    let limit = if kind == "dense" { 7 } else { 14 };
+    Call { message, confidence, word, limit }
+}
+
+/// The fastest run over all calls, in nanoseconds a call.
+fn fastest(calls: &[Call], correct: fn(&mut Call) -> u64, best: &mut f64) {
+    let mut copies = calls.to_vec();
+    let start = Instant::now();
+    for call in &mut copies {
+        black_box(correct(black_box(call)));
+    }
+    *best = best.min(start.elapsed().as_nanos() as f64 / calls.len() as f64);
+}
+
+/// False where the two do not agree.
+pub fn speed() -> bool {
+    let mut random = Random::new(112);
+    println!("nanoseconds a call, 112 bits: kind, mode_s_correct, Rust, ratio");
+    for (kind, number) in [("clean", 7), ("corrected", 10), ("dense", 8), ("no fit", 9)] {
+        let calls: Vec<Call> = (0..CALLS).map(|_| call(&mut random, kind)).collect();
+        for call in &calls {
+            let (mut ours, mut theirs) = (call.clone(), call.clone());
+            let (x, y) = (correct_in_c(&mut ours), correct_in_rust(&mut theirs));
+            if x != y || x & 0xFF != number || ours.message != theirs.message {
+                println!("WRONG: {kind}: {x:016X} and {y:016X}");
+                return false;
+            }
+        }
+        let (mut ours, mut theirs) = (f64::INFINITY, f64::INFINITY);
+        for _ in 0..RUNS {
+            fastest(&calls, correct_in_c, &mut ours);
+            fastest(&calls, correct_in_rust, &mut theirs);
+        }
+        println!("{kind:9} {ours:7.1} {theirs:7.1} {:6.2}", ours / theirs);
+    }
+    true
+}
