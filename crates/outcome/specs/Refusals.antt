@@ -28,3 +28,9 @@ tableUnsound = 8
 
 abbrev pub tableFull : ℕ
 tableFull = 9
+
+abbrev pub nothingOpened : ℕ
+nothingOpened = 10
+
+abbrev pub numberAboveLast : ℕ
+numberAboveLast = 11

@@ -153,6 +153,7 @@ module _ (own : ℕ) (m : List ℕ) where
 pub record Admitted (own : ℕ) (m : List ℕ) : Type 0 where
   pub own-lt : own < 2 ^ 24
   pub not-everyone : own ≡ everyone → ⊥
+  pub first-bit : firstBitAgrees m ≡ true
   pub outcome : receptionOutcome own m ≡ said (receptionOf own (addressRead (number m)) (formatNumber m))
 
 pub admitted : (own : ℕ) (m : List ℕ) → Unrefused (receptionOutcome own m) → Admitted own m
@@ -165,6 +166,7 @@ admitted own m h =
     record {
       own-lt = word-lt own (second .0);
       not-everyone = λ e. never (or-second (eqb own 0) (eqb own everyone) (eq-eqb own everyone e)) (not-true (isReserved own) (fourth .0));
+      first-bit = third .0;
       outcome = sym (read own m _ (first .0) (second .0) (third .0) (not-true (isReserved own) (fourth .0)) refl);
     }
 
