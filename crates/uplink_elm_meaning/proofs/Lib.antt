@@ -1,0 +1,4 @@
+-- The theorems.
+pub mod Simulating
+pub mod Showing
+pub mod Parts
