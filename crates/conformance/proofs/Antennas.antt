@@ -88,7 +88,7 @@ received own m u =
     let none = unrefused-where-none (receive own m) .0 u in
     whole m (λ w. none _ (inl (refl, w))) (λ w. none _ (inr (inr (inl (refl, w)))))
 
-receives : (own : ℕ) (m : List ℕ) → Permitted own → Whole m → Unrefused (receptionOutcome own m)
+pub receives : (own : ℕ) (m : List ℕ) → Permitted own → Whole m → Unrefused (receptionOutcome own m)
 unfolding UnrefusedWhereNone Applies SomeBreaks Breaks handed outcome row
 receives own m h k = unrefused-where-none (receive own m) .1 none
   where
@@ -348,7 +348,7 @@ part-lengths own u p l q f = sizes own u p l q (antennaOf own (u .1) p (l .1) q)
 -- ---- bursts
 
 -- an interrogation as it was sealed, for an own address that no row refuses
-undamaged : (own : ℕ) (n : List ℕ) → Permitted own → Bytes n → sealOutcome n own ≡ done → Taken own (interrogationAfter n own)
+pub undamaged : (own : ℕ) (n : List ℕ) → Permitted own → Bytes n → sealOutcome n own ≡ done → Taken own (interrogationAfter n own)
 unfolding Permitted Whole Taken SealedCallIsRead UnrefusedWhereNone Applies SomeBreaks Breaks handed outcome row
 undamaged own n h hn e = (as-sealed before, inl (address-law (number (interrogationAfter n own)) own (omega (arith, h .0)) .0 (sealed-call-is-read n own hn e)))
   where

@@ -9,6 +9,7 @@ pub mod Noticing
 pub mod Altitudes
 pub mod Antennas
 pub mod Packing
+pub mod Uploads
 pub mod Bench
 pub mod Instances
 pub mod AltitudeInstances

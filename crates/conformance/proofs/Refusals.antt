@@ -1,7 +1,7 @@
 -- Demand 1, refusals. The idea: each call's outcome is a chain of tests, one for each part that it hands over, in the order of
 -- the table; one induction over such a chain serves every call, and each row's test is passed exactly when the part is not
 -- wrong.
-use mathlib.Core.Path.{_≡_, refl, sym, ap, _∙_, subst}
+use mathlib.Core.Path.{_≡_, refl, sym, ap, ap₂, _∙_, subst}
 use mathlib.Core.Logic.{_⊎_, inl, inr, _↔_}
 use mathlib.Core.List.{List, [], _∷_}
 use mathlib.Core.Bool.{Bool, true, false, not, cond, _&&_, _||_}
@@ -41,10 +41,14 @@ use Rattle.rollcall_table.specs.declared.Record.{Record}
 use Rattle.rollcall_table.specs.Table.{recordAt, rightLengths, isSound, holder, isIn, hasRoom}
 use Rattle.rollcall_plans.specs.Calls.{found, absent, clearOutcome, findOutcome, removeOutcome, addOutcome}
 use Rattle.rollcall_meaning.proofs.Laws.{lengths-wrong, wrong-lengths, unsound, not-sound, no-place, place-none, clear-leaves, add-leaves, remove-leaves}
+use Rattle.uplink_elm.specs.declared.Progress.{Progress}
+use Rattle.uplink_elm.specs.Segments.{replyControl, segmentNumber}
+use Rattle.uplink_elm.specs.Receiving.{progressOf, withProgress, receiverAfter}
+use Rattle.uplink_elm.proofs.Laws.{opensNone, isAbove, unopened, above, opens-none, is-above, of-own, onward, by-reception, refused-leaves as segment-leaves}
 use Rattle.conformance.specs.Refusals.{Part, row, Wrong, Call, Lent, handed, outcome, lent, after, Breaks, SomeBreaks, Applies, RefusedByLowest, UnrefusedWhereNone, RefusedLeaves}
-use Rattle.conformance.specs.Refusals.Part.{message, field, confidence, word, limit, judged, ownAddress, altitude, lengths, table, entering}
-use Rattle.conformance.specs.Refusals.Call.{registerStep, registerBack, uplinkOverlay, fieldParity, messageRemainder, addressRead as readAddress, sealReply, sealInterrogation, receive, correct, readAltitude, writeAltitude, takenAntenna, clearTable, addOrRenew, removeRecord, findRecord}
-use Rattle.conformance.specs.Refusals.Lent.{bytes, rollcall}
+use Rattle.conformance.specs.Refusals.Part.{message, field, confidence, word, limit, judged, ownAddress, altitude, lengths, table, entering, opening, numbered}
+use Rattle.conformance.specs.Refusals.Call.{registerStep, registerBack, uplinkOverlay, fieldParity, messageRemainder, addressRead as readAddress, sealReply, sealInterrogation, receive, correct, readAltitude, writeAltitude, takenAntenna, clearTable, addOrRenew, removeRecord, findRecord, receiveSegment}
+use Rattle.conformance.specs.Refusals.Lent.{bytes, rollcall, upload}
 
 -- ---- the test of each part
 
@@ -60,6 +64,8 @@ passes (altitude z s) = inCode z s
 passes (lengths rs ps) = rightLengths (length rs) (length ps)
 passes (table rs ps n) = isSound rs ps n
 passes (entering rs a) = isIn rs a || hasRoom rs
+passes (opening own m r) = not (unopened own m r)
+passes (numbered own m r) = not (above own m r)
 
 -- two tests of equality, either of which will do
 either-false : (a b c : ℕ) → ((eqb a b || eqb a c) ≡ false) ↔ ((a ≡ b → ⊥) × (a ≡ c → ⊥))
@@ -150,6 +156,12 @@ failed-wrong (altitude z s) e = not-in-code z s e
 failed-wrong (lengths rs ps) e = lengths-wrong (length rs) (length ps) e
 failed-wrong (table rs ps n) e = unsound rs ps n e
 failed-wrong (entering rs a) e = no-place rs a e
+failed-wrong (opening own m r) e =
+    let h = of-own own m (opensNone (replyControl m) (segmentNumber m) r) .0 (not-false (unopened own m r) e) in
+    (h .0, h .1, opens-none (replyControl m) (segmentNumber m) r .0 (h .2))
+failed-wrong (numbered own m r) e =
+    let h = of-own own m (isAbove (replyControl m) (segmentNumber m) r) .0 (not-false (above own m r) e) in
+    (h .0, h .1, is-above (replyControl m) (segmentNumber m) r .0 (h .2))
 
 wrong-failed : (p : Part) → Wrong p → passes p ≡ false
 unfolding passes Wrong isMessageLength isFieldLength isWord
@@ -164,6 +176,8 @@ wrong-failed (altitude z s) h = not-of-code z s h
 wrong-failed (lengths rs ps) h = wrong-lengths (length rs) (length ps) h
 wrong-failed (table rs ps n) h = not-sound rs ps n h
 wrong-failed (entering rs a) h = place-none rs a h
+wrong-failed (opening own m r) h = ap not (of-own own m _ .1 (h .0, h .1, opens-none (replyControl m) (segmentNumber m) r .1 (h .2)))
+wrong-failed (numbered own m r) h = ap not (of-own own m _ .1 (h .0, h .1, is-above (replyControl m) (segmentNumber m) r .1 (h .2)))
 
 -- ---- a chain of tests
 
@@ -262,6 +276,23 @@ final (clearTable rs ps n) = done
 final (addOrRenew rs ps n s) = cond (isIn rs (s .address)) (answer 2 []) (answer 1 [])
 final (removeRecord rs ps n a) = cond (isIn rs a) (answer 3 []) absent
 final (findRecord rs ps n a) = cond (isIn rs a) (found (recordAt rs (holder rs a))) absent
+final (receiveSegment own m r s) = withProgress (said (receptionOf own (addressRead (number m)) (formatNumber m))) (progressOf (receiverAfter own m r))
+
+-- the transponder's four rows before the answer of another call
+four-rows : (own a f : ℕ) (r : Reception) → Case own a f r → (o : Outcome) (s t u v : Bool)
+    → unless s 1 (unless t 3 (unless u 5 (unless v 6 o))) ≡ onward (unless s 1 (unless t 3 (unless u 5 (unless v 6 (said r))))) o
+four-rows own a f r h o true true true true = by r h
+  where
+    by : (r : Reception) → Case own a f r → o ≡ onward (said r) o
+    by Own h = refl
+    by AllCall h = refl
+    by Broadcast h = refl
+    by (NotOurs b) h = refl
+    by (Refused n) h = absurd h
+four-rows own a f r h o true true true false = refl
+four-rows own a f r h o true true false v = refl
+four-rows own a f r h o true false u v = refl
+four-rows own a f r h o false t u v = refl
 
 is-chain : (c : Call) → chain (handed c) (final c) ≡ outcome c
 unfolding chain passes row handed final outcome registerAnswer backwardAnswer overlayAnswer parityAnswer remainderAnswer addressAnswer sealOutcome receptionOutcome sensorOutcome checked readingOutcome writingOutcome clearOutcome addOutcome removeOutcome findOutcome
@@ -282,6 +313,10 @@ is-chain (clearTable rs ps n) = refl
 is-chain (addOrRenew rs ps n s) = refl
 is-chain (removeRecord rs ps n a) = refl
 is-chain (findRecord rs ps n a) = refl
+is-chain (receiveSegment own m r s) =
+    four-rows own (addressRead (number m)) (formatNumber m) (receptionOf own (addressRead (number m)) (formatNumber m)) (case own (addressRead (number m)) (formatNumber m)) _
+    (isMessageLength (length m)) (isWord own) (firstBitAgrees m) (not (isReserved own))
+    ∙ by-reception own m r
 
 in-order : (c : Call) → From 0 (handed c)
 unfolding From handed row
@@ -302,6 +337,7 @@ in-order (clearTable rs ps n) = (lit≤ tt, tt)
 in-order (addOrRenew rs ps n s) = (lit≤ tt, (lit≤ tt, (lit≤ tt, tt)))
 in-order (removeRecord rs ps n a) = (lit≤ tt, (lit≤ tt, tt))
 in-order (findRecord rs ps n a) = (lit≤ tt, (lit≤ tt, tt))
+in-order (receiveSegment own m r s) = (lit≤ tt, (lit≤ tt, (lit≤ tt, (lit≤ tt, (lit≤ tt, (lit≤ tt, tt))))))
 
 reception-final : (own a f : ℕ) (r : Reception) → Case own a f r → Unrefused (said r)
 reception-final own a f Own h n e = refusal-is-no-answer (sym e)
@@ -309,6 +345,13 @@ reception-final own a f AllCall h n e = refusal-is-no-answer (sym e)
 reception-final own a f Broadcast h n e = refusal-is-no-answer (sym e)
 reception-final own a f (NotOurs b) h n e = refusal-is-no-answer (sym e)
 reception-final own a f (Refused k) h n e = h
+
+segment-final : (own a f : ℕ) (r : Reception) (p : Progress) → Case own a f r → Unrefused (withProgress (said r) p)
+segment-final own a f Own p h n e = refusal-is-no-answer (sym e)
+segment-final own a f AllCall p h n e = refusal-is-no-answer (sym e)
+segment-final own a f Broadcast p h n e = refusal-is-no-answer (sym e)
+segment-final own a f (NotOurs b) p h n e = refusal-is-no-answer (sym e)
+segment-final own a f (Refused k) p h n e = h
 
 pub decision-final : (m : List ℕ) (s : ℕ) (d : Decision) → Unrefused (decisionAnswer m s d)
 decision-final m s clean n e = refusal-is-no-answer (sym e)
@@ -350,6 +393,7 @@ is-final (clearTable rs ps k) n e = refusal-is-no-answer (sym e)
 is-final (addOrRenew rs ps k s) n e = either-final (isIn rs (s .address)) 2 1 [] [] n e
 is-final (removeRecord rs ps k a) n e = either-final (isIn rs a) 3 5 [] [] n e
 is-final (findRecord rs ps k a) n e = either-final (isIn rs a) 4 5 _ [] n e
+is-final (receiveSegment own m r s) n e = segment-final own (addressRead (number m)) (formatNumber m) (receptionOf own (addressRead (number m)) (formatNumber m)) _ (case own (addressRead (number m)) (formatNumber m)) n e
 
 -- ---- the theorems
 
@@ -389,3 +433,4 @@ refused-leaves (clearTable rs ps k) n e = same rs _ ps ps k _ (clear-leaves rs p
 refused-leaves (addOrRenew rs ps k s) n e = let l = add-leaves rs ps k s n e in same rs _ ps _ k _ (l .0) (l .1 .0) (l .1 .1)
 refused-leaves (removeRecord rs ps k a) n e = let l = remove-leaves rs ps k a n e in same rs _ ps _ k _ (l .0) (l .1 .0) (l .1 .1)
 refused-leaves (findRecord rs ps k a) n e = refl
+refused-leaves (receiveSegment own m r s) n e = let l = segment-leaves own m r s n e in ap₂ upload (l .0) (l .1)

@@ -9,4 +9,5 @@ pub mod Noticing
 pub mod Altitudes
 pub mod Antennas
 pub mod Packing
+pub mod Uploads
 pub mod Bench

@@ -8,17 +8,18 @@ use Prim.Native.Nat.{ℕ, _%_, _<_}
 use mathlib.Core.Path.{_≡_}
 use mathlib.Core.Logic.{_↔_, _⊎_}
 use mathlib.Core.List.{List, [], _∷_}
-use mathlib.Core.Bool.{Bool, true}
+use mathlib.Core.Bool.{Bool, true, false}
 use lib.IntN.{ℤ, natAbs}
 use lib.ListN.{length}
 use lib.Signed.{_<ℤ_}
 use Rattle.outcome.specs.Outcomes.{Outcome, Unrefused}
 use Rattle.outcome.specs.Outcomes.Outcome.{refusal}
-use Rattle.outcome.specs.Refusals.{wrongLength, wrongConfidenceLength, wordTooLarge, limitTooLarge, firstBitContradicts, ownAddressReserved, altitudeNotInCode, tableUnsound, tableFull}
+use Rattle.outcome.specs.Refusals.{wrongLength, wrongConfidenceLength, wordTooLarge, limitTooLarge, firstBitContradicts, ownAddressReserved, altitudeNotInCode, tableUnsound, tableFull, nothingOpened, numberAboveLast}
 use Rattle.message.specs.Message.{firstBit}
 use Rattle.division.specs.Answers.{registerAnswer, backwardAnswer, overlayAnswer, parityAnswer, remainderAnswer, addressAnswer}
 use Rattle.encoder.specs.Seals.{sealOutcome, replyAfter, interrogationAfter}
-use Rattle.transponder.specs.Receptions.{receptionOutcome}
+use Rattle.transponder.specs.Receptions.{receptionOutcome, said}
+use Rattle.transponder.specs.declared.Reception.the-variants.{Own}
 use Rattle.sensor.specs.Verdicts.{sensorOutcome, sensorAfter}
 use Rattle.altitude_code.specs.Altitudes.{lowest, highest}
 use Rattle.altitude.specs.Answers.{readingOutcome, writingOutcome, writingAfter}
@@ -27,12 +28,16 @@ use Rattle.rollcall_table.specs.declared.Record.{Record}
 use Rattle.rollcall_table.specs.declared.Sighting.{Sighting}
 use Rattle.rollcall_table.specs.Table.{largest, recordAt, Sound, holds}
 use Rattle.rollcall_plans.specs.Calls.{clearOutcome, clearCount, clearRecords, findOutcome, removeOutcome, removeCount, removeRecords, removePlaces, addOutcome, addCount, addRecords, addPlaces}
+use Rattle.uplink_elm.specs.declared.Receiver.{Receiver}
+use Rattle.uplink_elm.specs.Segments.{isExtended, replyControl, segmentNumber}
+use Rattle.uplink_elm.specs.Receiving.{receivingOutcome, receiverAfter, segmentsAfter}
 
 -- ---- the table
 
 -- What a call hands over. A seal, the transponder and the altitude's calls judge the first bit of their message; a confidence
 -- buffer belongs to a message; a word may be an address or a register; an altitude, in feet, has its step; a roll-call table is
--- its records, its places and its count, of which clear judges the lengths alone; an address is to enter a table's records.
+-- its records, its places and its count, of which clear judges the lengths alone; an address is to enter a table's records; an own
+-- address, a message and the receiver that hears it are judged together, by row 10 and by row 11.
 pub data Part : Type 0 where
   message : List ℕ → Part
   field : List ℕ → Part
@@ -45,6 +50,8 @@ pub data Part : Type 0 where
   lengths : List Record → List ℕ → Part
   table : List Record → List ℕ → ℕ → Part
   entering : List Record → ℕ → Part
+  opening : ℕ → List ℕ → Receiver → Part
+  numbered : ℕ → List ℕ → Receiver → Part
 
 -- The number of the row that speaks of a part,
 unfoldable pub row : Part → ℕ
@@ -59,13 +66,16 @@ row (altitude z s) = altitudeNotInCode
 row (lengths rs ps) = tableUnsound
 row (table rs ps n) = tableUnsound
 row (entering rs a) = tableFull
+row (opening own m r) = nothingOpened
+row (numbered own m r) = numberAboveLast
 
 -- and its condition: 'message not 7 or 14 bytes, or field not 4 or 11'; 'confidence length differs from message length';
 -- 'word, address or register above FFFFFF'; 'density limit above 24'; 'first bit contradicts the length', where 'a first
 -- bit 0 belongs to n = 56 and 1 to n = 112' (row 1 comes before it, so the length is one of the two); 'own address 000000
 -- or FFFFFF'; 'the step is neither 25 nor 100, or the altitude is off it or out of that code's range' (document 02, Point 1);
 -- 'the two lengths differ or lie outside 1 to 1000', or the table is not sound; 'the address is new and every place is live'
--- (Point 4).
+-- (Point 4); 'RC 1 or 2 with nothing opened, or RC 0 with NC 0', and 'RC 1 or 2 with NC above the opened last', 'only where the
+-- answer is 'own' and the format this one' (Point 7).
 unfoldable pub Wrong : Part → Type 0
 Wrong (message m) = (length m ≡ 7 → ⊥) × (length m ≡ 14 → ⊥)
 Wrong (field f) = (length f ≡ 4 → ⊥) × (length f ≡ 11 → ⊥)
@@ -79,6 +89,12 @@ Wrong (altitude z s) =
 Wrong (lengths rs ps) = (length rs ≡ length ps → ⊥) ⊎ ((length rs < 1) ⊎ (largest < length rs))
 Wrong (table rs ps n) = Sound rs ps n → ⊥
 Wrong (entering rs a) = ((i : ℕ) → holds (recordAt rs i) a ≡ true → ⊥) × ((i : ℕ) → i < length rs → recordAt rs i .live ≡ true)
+Wrong (opening own m r) =
+    (receptionOutcome own m ≡ said Own) × (isExtended m ≡ true)
+    × ((((replyControl m ≡ 1) ⊎ (replyControl m ≡ 2)) × (r .opened ≡ false)) ⊎ ((replyControl m ≡ 0) × (segmentNumber m ≡ 0)))
+Wrong (numbered own m r) =
+    (receptionOutcome own m ≡ said Own) × (isExtended m ≡ true)
+    × (((replyControl m ≡ 1) ⊎ (replyControl m ≡ 2)) × (r .opened ≡ true) × (r .last < segmentNumber m))
 
 -- ---- the calls
 
@@ -101,6 +117,7 @@ pub data Call : Type 0 where
   addOrRenew : List Record → List ℕ → ℕ → Sighting → Call
   removeRecord : List Record → List ℕ → ℕ → ℕ → Call
   findRecord : List Record → List ℕ → ℕ → ℕ → Call
+  receiveSegment : ℕ → List ℕ → Receiver → List ℕ → Call
 
 -- What each hands over: the table's column 'Calls'. The companion of the two-antenna transponder hands over the own address
 -- alone: 'A buffer that would be refused is simply not taken' (document 02, Point 5).
@@ -122,6 +139,7 @@ handed (clearTable rs ps n) = lengths rs ps ∷ []
 handed (addOrRenew rs ps n s) = word (s .address) ∷ table rs ps n ∷ entering rs (s .address) ∷ []
 handed (removeRecord rs ps n a) = word a ∷ table rs ps n ∷ []
 handed (findRecord rs ps n a) = word a ∷ table rs ps n ∷ []
+handed (receiveSegment own m r s) = message m ∷ word own ∷ judged m ∷ ownAddress own ∷ opening own m r ∷ numbered own m r ∷ []
 
 -- What each answers: the definition that its contract names.
 unfoldable pub outcome : Call → Outcome
@@ -142,11 +160,14 @@ outcome (clearTable rs ps n) = clearOutcome rs ps
 outcome (addOrRenew rs ps n s) = addOutcome rs ps n s
 outcome (removeRecord rs ps n a) = removeOutcome rs ps n a
 outcome (findRecord rs ps n a) = findOutcome rs ps n a
+outcome (receiveSegment own m r s) = receivingOutcome own m r
 
--- What a call may change: a buffer of bytes; or a table's records and places, and its count, which is passed in and returned.
+-- What a call may change: a buffer of bytes; or a table's records and places, and its count, which is passed in and returned; or a
+-- receiver, which is passed in and returned, and the bytes of its places.
 pub data Lent : Type 0 where
   bytes : List ℕ → Lent
   rollcall : List Record → List ℕ → ℕ → Lent
+  upload : Receiver → List ℕ → Lent
 
 -- What each is lent to change, and what it is after the call; no bytes where nothing is lent so.
 unfoldable pub lent : Call → Lent
@@ -167,6 +188,7 @@ lent (clearTable rs ps n) = rollcall rs ps n
 lent (addOrRenew rs ps n s) = rollcall rs ps n
 lent (removeRecord rs ps n a) = rollcall rs ps n
 lent (findRecord rs ps n a) = bytes []
+lent (receiveSegment own m r s) = upload r s
 
 unfoldable pub after : Call → Lent
 after (registerStep r b) = bytes []
@@ -186,6 +208,7 @@ after (clearTable rs ps n) = rollcall (clearRecords rs ps) ps (clearCount rs ps 
 after (addOrRenew rs ps n s) = rollcall (addRecords rs ps n s) (addPlaces rs ps n s) (addCount rs ps n s)
 after (removeRecord rs ps n a) = rollcall (removeRecords rs ps n a) (removePlaces rs ps n a) (removeCount rs ps n a)
 after (findRecord rs ps n a) = bytes []
+after (receiveSegment own m r s) = upload (receiverAfter own m r) (segmentsAfter own m r s)
 
 -- ---- the statements
 

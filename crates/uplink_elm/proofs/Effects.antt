@@ -2,7 +2,7 @@
 use mathlib.Core.Path.{_≡_, refl, sym, ap, _∙_}
 use mathlib.Core.Bool.{Bool, true, false, cond}
 use mathlib.Core.List.{List}
-use Prim.Native.Nat.{ℕ, zero, suc, _/_, _^_, _<_, _≤_}
+use Prim.Native.Nat.{ℕ, zero, suc, _/_, _%_, _^_, _<_, _≤_}
 use native.Mathlib.Omega.{arith}
 use lib.Dec.{eqb, leb}
 use lib.ListN.{length, getD}
@@ -11,7 +11,7 @@ use Rattle.outcome.specs.Outcomes.{Outcome, Unrefused}
 use Rattle.outcome.specs.Outcomes.Outcome.{refusal, answer}
 use Rattle.outcome.specs.Refusals.{nothingOpened, numberAboveLast}
 use Rattle.outcome.proofs.Laws.{never, refusal-is-no-answer}
-use Rattle.message.specs.Message.{number, formatNumber}
+use Rattle.message.specs.Message.{number, formatNumber, firstBitAgrees}
 use Rattle.message.proofs.Laws.{long-by-first-bit}
 use Rattle.division.specs.Division.{addressRead}
 use Rattle.transponder.specs.Receptions.{receptionOf, receptionOutcome, said as saidReception}
@@ -25,7 +25,7 @@ use Rattle.uplink_elm.specs.declared.Answer.the-variants as A
 use Rattle.uplink_elm.specs.declared.Effect.{Effect}
 use Rattle.uplink_elm.specs.declared.Effect.the-variants.{Refused, Nothing, Stored}
 use Rattle.uplink_elm.specs.Segments.{isExtended, replyControl, segmentNumber, bitOf, withNumber}
-use Rattle.uplink_elm.specs.Receiving.{one, said, openingEffect, addingEffect, effectOf, ownEffect, isOwn, callEffect, receiverOf, segmentsOf, outcomeOf, receivingOutcome, receiverAfter, segmentsAfter}
+use Rattle.uplink_elm.specs.Receiving.{one, progressOf, withProgress, said, openingEffect, addingEffect, effectOf, ownEffect, isOwn, callEffect, receiverOf, segmentsOf, outcomeOf, receivingOutcome, receiverAfter, segmentsAfter}
 
 -- ---- picked by a test
 
@@ -112,6 +112,34 @@ module _ (own : ℕ) (m : List ℕ) (r : Receiver) (s : List ℕ) (o : Outcome) 
   unfolding callEffect
   other-call e = of-call Nothing (else-is (isOwn (receptionOutcome own m)) _ _ _ (ap isOwn (sym h) ∙ e) refl)
 
+-- an answer other than 'own' leaves the receiver and the bytes
+pub other-leaves : (own : ℕ) (m : List ℕ) (r : Receiver) (s : List ℕ) → isOwn (receptionOutcome own m) ≡ false
+    → (receivingOutcome own m r ≡ withProgress (receptionOutcome own m) (progressOf r)) × (receiverAfter own m r ≡ r) × (segmentsAfter own m r s ≡ s)
+unfolding receivingOutcome receiverAfter segmentsAfter callEffect
+other-leaves own m r s e =
+    let nothing : callEffect own m r ≡ Nothing = ap (λ (t : Bool). cond t (ownEffect m r) Nothing) e in (
+      ap (λ (k : Effect). outcomeOf k (receptionOutcome own m) r) nothing,
+      ap (λ (k : Effect). receiverOf k r) nothing,
+      ap (λ (k : Effect). segmentsOf k m s) nothing,
+    )
+
+-- so does a refusal
+refused-effect : (k : Effect) (j : ℕ) (vs m : List ℕ) (r : Receiver) (s : List ℕ) (n : ℕ) → outcomeOf k (answer j vs) r ≡ refusal n
+    → (receiverOf k r ≡ r) × (segmentsOf k m s ≡ s)
+refused-effect (Refused i) j vs m r s n e = (refl, refl)
+refused-effect Nothing j vs m r s n e = (refl, refl)
+refused-effect (Stored next) j vs m r s n e = absurd (refusal-is-no-answer (sym e))
+
+pub refused-leaves : (own : ℕ) (m : List ℕ) (r : Receiver) (s : List ℕ) (n : ℕ) → receivingOutcome own m r ≡ refusal n
+    → (receiverAfter own m r ≡ r) × (segmentsAfter own m r s ≡ s)
+unfolding receivingOutcome receiverAfter segmentsAfter callEffect
+refused-leaves own m r s n e = by (receptionOutcome own m) e
+  where
+    by : (o : Outcome) → outcomeOf (cond (isOwn o) (ownEffect m r) Nothing) o r ≡ refusal n
+        → (receiverOf (cond (isOwn o) (ownEffect m r) Nothing) r ≡ r) × (segmentsOf (cond (isOwn o) (ownEffect m r) Nothing) m s ≡ s)
+    by (refusal j) q = (refl, refl)
+    by (answer j vs) q = refused-effect (cond (eqb j 1) (ownEffect m r) Nothing) j vs m r s n q
+
 pub not-ours-said : (a : ℕ) (p q : Progress) → p ≡ q → said (A.NotOurs a p) ≡ said (A.NotOurs a q)
 not-ours-said a p q e = ap (λ (k : Progress). said (A.NotOurs a k)) e
 
@@ -131,12 +159,23 @@ own-answer own m e = by (receptionOf own (addressRead (number m)) (formatNumber 
     by (R.NotOurs a) p = absurd (never e (ap isOwn p))
     by (R.Refused n) p = absurd (never e (ap isOwn p))
 
--- an own interrogation of this format is a long one
-pub long-message : (own : ℕ) (m : List ℕ) → saidReception R.Own ≡ receptionOutcome own m → isExtended m ≡ true → length m ≡ 14
+-- a message of this format whose first bit agrees with its length is a long one, and so is an own interrogation
+pub long-format : (m : List ℕ) → firstBitAgrees m ≡ true → isExtended m ≡ true → length m ≡ 14
 unfolding isExtended
-long-message own m h e =
-    let three : getD m 0 0 / 2 ^ 6 ≡ 3 = eqb-true (getD m 0 0 / 2 ^ 6) 3 e in
-    long-by-first-bit m (admitted own m (λ n k. refusal-is-no-answer (sym k ∙ sym h)) .first-bit) (omega arith)
+long-format m h e = let three : getD m 0 0 / 2 ^ 6 ≡ 3 = eqb-true (getD m 0 0 / 2 ^ 6) 3 e in long-by-first-bit m h (omega arith)
+
+pub long-message : (own : ℕ) (m : List ℕ) → saidReception R.Own ≡ receptionOutcome own m → isExtended m ≡ true → length m ≡ 14
+long-message own m h e = long-format m (admitted own m (λ n k. refusal-is-no-answer (sym k ∙ sym h)) .first-bit) e
+
+-- format, RC and NC go by the first byte
+pub parts-by-first : (m k : List ℕ) → getD m 0 0 ≡ getD k 0 0
+    → (isExtended m ≡ isExtended k) × (replyControl m ≡ replyControl k) × (segmentNumber m ≡ segmentNumber k)
+unfolding isExtended replyControl segmentNumber
+parts-by-first m k e = (
+  ap (λ (b : ℕ). eqb (b / 2 ^ 6) 3) e,
+  ap (λ (b : ℕ). b / 2 ^ 4 % 2 ^ 2) e,
+  ap (λ (b : ℕ). b % 2 ^ 4) e,
+)
 
 nothing-stored : (next : Receiver) → Stored next ≡ Nothing → ⊥
 nothing-stored next q = never refl (ap stores q)

@@ -66,6 +66,9 @@ pub whole-unopened : (r : Receiver) → r .opened ≡ false → false ≡ isWhol
 unfolding isWhole
 whole-unopened r e = sym (ap (λ (o : Bool). o && allBelow (isHeld (r .held)) (suc (r .last))) e)
 
+pub whole-of-held : (r : Receiver) → r .opened ≡ true → ((k : ℕ) → k ≤ r .last → isHeld (r .held) k ≡ true) → isWhole r ≡ true
+whole-of-held r e h = sym (whole-opened r true e (sym (all-below (isHeld (r .held)) (suc (r .last)) (λ k l. h k (omega arith)))))
+
 -- ---- single bits
 
 remainder-of-two : (q m : ℕ) → m ≤ 1 → (q * 2 + m) % 2 ≡ m

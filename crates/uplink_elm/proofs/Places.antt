@@ -2,7 +2,7 @@
 -- the ten that are written is the one before, by its index.
 use mathlib.Core.Path.{_≡_, refl, sym, ap, ap₂, _∙_, subst}
 use mathlib.Core.Bool.{Bool, true, false}
-use mathlib.Core.List.{List, _++_, append-nil}
+use mathlib.Core.List.{List, [], _∷_, _++_, append-nil}
 use Prim.Native.Nat.{ℕ, _+_, _-_, _*_, _<_, _≤_}
 use native.Mathlib.Omega.{arith}
 use lib.Dec.{ltb}
@@ -11,6 +11,8 @@ use lib.Seq.{take-length, length-take-le, take-at, drop-at, getD-take, getD-drop
 use borrow.Author.Tests.{ltb-true, ltb-false}
 use borrow.Rule.Slice.PartMut.{putMid, post-is}
 use Rattle.outcome.proofs.Laws.{positive}
+use Rattle.message.specs.Message.{field}
+use Rattle.message.proofs.Laws.{field-is}
 use Rattle.uplink_elm.specs.Segments.{segment, segmentAt, stored}
 
 -- ---- the copy of a segment
@@ -100,3 +102,15 @@ module _ (n : ℕ) (b s : List ℕ) (ten : length b ≡ 10) (fits : n * 10 + 10 
 pub segment-length : (m : List ℕ) → length m ≡ 14 → length (segment m) ≡ 10
 unfolding segment
 segment-length m h = part-length 1 10 m (omega arith)
+
+-- it goes by the field
+pub segment-by-field : (m k : List ℕ) → length m ≡ 14 → length k ≡ 14 → field m ≡ field k → segment m ≡ segment k
+unfolding segment
+segment-by-field m k h g e = of-field m h ∙ ap (drop 1) e ∙ sym (of-field k g)
+  where
+    behind-first : (l : List ℕ) → take 10 (drop 1 l) ≡ drop 1 (take 11 l)
+    behind-first [] = refl
+    behind-first (x ∷ l) = refl
+
+    of-field : (l : List ℕ) → length l ≡ 14 → take 10 (drop 1 l) ≡ drop 1 (field l)
+    of-field l q = behind-first l ∙ ap (drop 1) (sym (field-is l ∙ ap (λ (n : ℕ). take (n - 3) l) q))

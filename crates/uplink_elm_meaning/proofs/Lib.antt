@@ -2,3 +2,4 @@
 pub mod Simulating
 pub mod Showing
 pub mod Parts
+pub mod Laws

@@ -2,7 +2,7 @@
 -- the answers then agree, since the bits held are the machine's numbers. One case for each effect of a call.
 use mathlib.Core.Path.{_≡_, refl, sym, ap, ap₂, _∙_, subst, fun-ext}
 use mathlib.Core.Bool.{Bool, true, false, cond, _&&_}
-use mathlib.Core.List.{List, [], _∷_}
+use mathlib.Core.List.{List, [], _∷_, _++_}
 use mathlib.Core.Option.{Option}
 use mathlib.Core.Option.Option.{none, some}
 use Prim.Native.Nat.{ℕ, zero, suc, _+_, _-_, _*_, _/_, _%_, _^_, _<_, _≤_}
@@ -12,7 +12,8 @@ use lib.ListN.{length}
 use lib.Pow.{shr-shr}
 use borrow.Author.Tests.{eqb-true, eqb-false}
 use Rattle.outcome.specs.Outcomes.{Outcome}
-use Rattle.transponder.specs.Receptions.{receptionOutcome}
+use Rattle.transponder.specs.Receptions.{receptionOutcome, said}
+use Rattle.transponder.specs.declared.Reception.the-variants.{Own}
 use Rattle.uplink_elm.specs.declared.Receiver.{Receiver}
 use Rattle.uplink_elm.specs.declared.Progress.{Progress}
 use Rattle.uplink_elm.specs.declared.Effect.{Effect}
@@ -221,3 +222,18 @@ good-fresh places h = record {
 pub as-the-machine : AsTheMachine
 unfolding AsTheMachine
 as-the-machine places cs h = let all = good-all cs (fresh places) start (good-fresh places h) in (all .0, all .1 .same)
+
+-- ---- the machine, call by call
+
+pub machine-after-append : (cs ds : List Call) (s : Machine) → machineAfterAll (cs ++ ds) s ≡ machineAfterAll ds (machineAfterAll cs s)
+unfolding machineAfterAll
+machine-after-append [] ds s = refl
+machine-after-append (c ∷ cs) ds s = machine-after-append cs ds (machineAfter (c .own) (c .message) s)
+
+-- a message that the transponder answers 'own', by its parts
+pub step-of-own : (own : ℕ) (m : List ℕ) (c n : ℕ) (b : List ℕ) (s : Machine) → receptionOutcome own m ≡ said Own → isExtended m ≡ true
+    → replyControl m ≡ c → segmentNumber m ≡ n → segment m ≡ b → machineAfter own m s ≡ resulting (does c n b s) s
+unfolding machineAfter step
+step-of-own own m c n b s e f h i j =
+    ap (λ (t : Bool). resulting (cond t (does (replyControl m) (segmentNumber m) (segment m) s) (becomes s)) s) (ap₂ _&&_ (ap isOwn e) f)
+    ∙ ap (λ (x : ℕ). resulting (does x (segmentNumber m) (segment m) s) s) h ∙ ap₂ (λ (x : ℕ) (y : List ℕ). resulting (does c x y s) s) i j

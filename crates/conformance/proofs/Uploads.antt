@@ -1,0 +1,223 @@
+-- Extended length messages from the encoder to the receiver. The idea: what was sealed for the own address is one step of the plain
+-- machine, by its RC; along the steps every segment held is the one that was sent, and what is held stays; the receiver is the
+-- machine's. A hit interrogation is not own, and so does nothing.
+use mathlib.Core.Path.{_≡_, refl, sym, ap, ap₂, _∙_, subst}
+use mathlib.Core.Bool.{Bool, true, false, cond, _&&_}
+use mathlib.Core.Logic.{_⊎_, inl, inr}
+use mathlib.Core.List.{List, [], _∷_, _++_}
+use mathlib.Core.Option.{Option, Option·getD}
+use mathlib.Core.Option.Option.{none, some}
+use Prim.Native.Nat.{ℕ, suc, _≤_, _<_}
+use native.Mathlib.Nat.{le-refl, eq-or-lt-of-le}
+use native.Mathlib.Omega.{arith}
+use lib.Bits.{bitXor}
+use lib.Dec.{eqb, leb}
+use lib.ListN.{length, getD}
+use borrow.Author.Tests.{eqb-true, eq-eqb, ne-eqb, le-leb, leb-true, leb-false, lt-leb}
+use Rattle.outcome.specs.Outcomes.{done, Unrefused}
+use Rattle.outcome.proofs.Laws.{never, refusal-is-no-answer}
+use Rattle.message.specs.Message.{number, Bytes, field}
+use Rattle.message.specs.Bits.{inverted}
+use Rattle.division.specs.Division.{parity, overlay}
+use Rattle.division.proofs.Laws.{address-law}
+use Rattle.encoder.specs.Seals.{withParity, sealOutcome, interrogationAfter}
+use Rattle.encoder.proofs.Laws.{was-accepted, interrogation-after, interrogation-is, sealed-length, sealed-first, sealed-field}
+use Rattle.transponder.specs.Receptions.{receptionOutcome, said}
+use Rattle.transponder.specs.declared.Reception.the-variants.{Own}
+use Rattle.uplink_elm.specs.Segments.{isExtended, replyControl, segmentNumber, segment, isHeld, segmentAt}
+use Rattle.uplink_elm.specs.Receiving.{isOwn, progressOf, withProgress, receivingOutcome, receiverAfter, segmentsAfter}
+use Rattle.uplink_elm.proofs.Laws.{own-answer, long-format, parts-by-first, segment-by-field, other-leaves, whole-of-held}
+use Rattle.uplink_elm_meaning.specs.Machine.{Machine, start, isSome, storing, does, resulting, machineAfter}
+use Rattle.uplink_elm_meaning.specs.Machine.Step.{refuses, becomes}
+use Rattle.uplink_elm_meaning.specs.Running.{Call, State, fresh, afterAll, machineAfterAll, kept, Same, AsTheMachine}
+use Rattle.uplink_elm_meaning.proofs.Laws.{as-the-machine, step-of-own, machine-after-append}
+use Rattle.conformance.specs.Accepting.{Due, OnlyOneIsDue, BurstNeverOwn}
+use Rattle.conformance.specs.Antennas.{Permitted, Whole, Taken}
+use Rattle.conformance.specs.Sealing.{SealedCallIsRead}
+use Rattle.conformance.specs.Uploads.{Sent, Each, Some, received, SentIsReceived, BurstChangesNothing}
+use Rattle.conformance.proofs.Sealing.{sealed-call-is-read}
+use Rattle.conformance.proofs.Accepting.{only-one-is-due, burst-never-own}
+use Rattle.conformance.proofs.Antennas.{receives, undamaged}
+
+-- ---- what was sealed is one step of the machine
+
+pub sealed-is-own : (own : ℕ) (m : List ℕ) → Permitted own → Bytes m → sealOutcome m own ≡ done → receptionOutcome own (interrogationAfter m own) ≡ said Own
+unfolding OnlyOneIsDue Due Taken SealedCallIsRead Permitted
+sealed-is-own own m h hm e =
+    only-one-is-due own (interrogationAfter m own) (receives own (interrogationAfter m own) h (undamaged own m h hm e .0)) Own
+    (address-law (number (interrogationAfter m own)) own (omega (arith, h .0)) .0 (sealed-call-is-read m own hm e))
+
+module _ (own c n : ℕ) (b m : List ℕ) (h : Permitted own) (q : Sent own c n b m) where
+  u : List ℕ
+  u = q .unsealed
+
+  long : length u ≡ 14
+  unfolding u
+  long = long-format (q .unsealed) (was-accepted (q .unsealed) own (q .not-refused) .2) (q .format)
+
+  is : m ≡ withParity u (bitXor (parity (number (field u))) (overlay own))
+  unfolding u
+  is = q .sealed ∙ interrogation-after (q .unsealed) own (q .not-refused) ∙ interrogation-is (q .unsealed) own
+
+  first : getD m 0 0 ≡ getD u 0 0
+  first = ap (λ (l : List ℕ). getD l 0 0) is ∙ sealed-first u _ (omega (arith, long))
+
+  pub sent-number : segmentNumber m ≡ n
+  unfolding u
+  sent-number = parts-by-first m u first .2 ∙ q .number-is
+
+  pub sent-step : (s : Machine) → machineAfter own m s ≡ resulting (does c n b s) s
+  unfolding u
+  sent-step s =
+      step-of-own own m c n b s (ap (receptionOutcome own) (q .sealed) ∙ sealed-is-own own u h (q .are-bytes) (q .not-refused))
+      (parts-by-first m u first .0 ∙ q .format) (parts-by-first m u first .1 ∙ q .control-is) sent-number
+      (segment-by-field m u (ap length is ∙ sealed-length u _ (omega (arith, long)) ∙ long) long (ap field is ∙ sealed-field u _ (omega (arith, long))) ∙ q .segment-is)
+
+-- ---- along the steps
+
+module _ (own last : ℕ) (bytes : ℕ → List ℕ) (h : Permitted own) where
+  -- a message with this last number is opened, and what is held of it is what was sent
+  record Partly (s : Machine) : Type 0 where
+    opened : s .opened ≡ true
+    last-is : s .last ≡ last
+    as-sent : (k : ℕ) → (s .segments k ≡ none) ⊎ ((k ≤ last) × (s .segments k ≡ some (bytes k)))
+
+  -- the machine with segment k stored
+  with-segment : ℕ → (ℕ → Option (List ℕ)) → Machine
+  with-segment k f = record { opened = true; last = last; segments = storing k (bytes k) f }
+
+  stored-as-sent : (k : ℕ) (f : ℕ → Option (List ℕ)) → k ≤ last → ((j : ℕ) → (f j ≡ none) ⊎ ((j ≤ last) × (f j ≡ some (bytes j))))
+      → Partly (with-segment k f)
+  unfolding with-segment
+  stored-as-sent k f l g = record { opened = refl; last-is = refl; as-sent = λ j. by j (eqb j k) refl }
+    where
+      by : (j : ℕ) (t : Bool) → eqb j k ≡ t → (cond t (some (bytes k)) (f j) ≡ none) ⊎ ((j ≤ last) × (cond t (some (bytes k)) (f j) ≡ some (bytes j)))
+      by j true e = let p : j ≡ k = eqb-true j k e in inr (subst (λ (x : ℕ). x ≤ last) (sym p) l, ap (λ (x : ℕ). some (bytes x)) (sym p))
+      by j false e = g j
+
+  here : (k : ℕ) (f : ℕ → Option (List ℕ)) → with-segment k f .segments k ≡ some (bytes k)
+  unfolding with-segment
+  here k f = ap (λ (t : Bool). cond t (some (bytes k)) (f k)) (eq-eqb k k refl)
+
+  stays : (k j : ℕ) (f : ℕ → Option (List ℕ)) → f j ≡ some (bytes j) → with-segment k f .segments j ≡ some (bytes j)
+  unfolding with-segment
+  stays k j f e = by (eqb j k) refl
+    where
+      by : (t : Bool) → eqb j k ≡ t → cond t (some (bytes k)) (f j) ≡ some (bytes j)
+      by true g = ap (λ (x : ℕ). some (bytes x)) (sym (eqb-true j k g))
+      by false g = e
+
+  opened-by : 1 ≤ last → (m : List ℕ) → Sent own 0 last (bytes last) m → (s : Machine) → machineAfter own m s ≡ with-segment last (λ k. none)
+  unfolding does with-segment
+  opened-by l m q s =
+      sent-step own 0 last (bytes last) m h q s
+      ∙ ap (λ (t : Bool). resulting (cond t (refuses 10) (becomes (with-segment last (λ k. none)))) s) (ne-eqb last 0 (λ z. omega (arith, z, l)))
+
+  added-by : (k : ℕ) (m : List ℕ) → k ≤ last → Sent own 1 k (bytes k) m → (s : Machine) → Partly s → machineAfter own m s ≡ with-segment k (s .segments)
+  unfolding does with-segment
+  added-by k m l q s g =
+      sent-step own 1 k (bytes k) m h q s
+      ∙ ap₂ (λ (t u : Bool). resulting (cond t (cond u (becomes (record { opened = true; last = s .last; segments = storing k (bytes k) (s .segments) })) (refuses 11)) (refuses 10)) s)
+      (g .opened) (le-leb k (s .last) (subst (λ (x : ℕ). k ≤ x) (sym (g .last-is)) l))
+      ∙ ap (λ (x : ℕ). record { opened = true; last = x; segments = storing k (bytes k) (s .segments) }) (g .last-is)
+
+  Adds : List ℕ → Type 0
+  Adds m = (k : ℕ) × ((k ≤ last) × Sent own 1 k (bytes k) m)
+
+  along : (ms : List (List ℕ)) → Each Adds ms → (s : Machine) → Partly s
+      → Partly (machineAfterAll (received own ms) s)
+      × ((j : ℕ) → (s .segments j ≡ some (bytes j)) ⊎ Some (Sent own 1 j (bytes j)) ms → machineAfterAll (received own ms) s .segments j ≡ some (bytes j))
+  unfolding Each Some received machineAfterAll Adds
+  along [] a s g = (g, only)
+    where
+      only : (j : ℕ) → (s .segments j ≡ some (bytes j)) ⊎ ⊥ → s .segments j ≡ some (bytes j)
+      only j (inl e) = e
+      only j (inr e) = absurd e
+  along (m ∷ ms) ((k, (l, q)), a) s g =
+      let rest = along ms a (machineAfter own m s) (subst Partly (sym (added-by k m l q s g)) (stored-as-sent k (s .segments) l (g .as-sent))) in
+      (rest .0, λ j e. rest .1 j (came j e))
+    where
+      next : machineAfter own m s ≡ with-segment k (s .segments)
+      next = added-by k m l q s g
+
+      came : (j : ℕ) → (s .segments j ≡ some (bytes j)) ⊎ (Sent own 1 j (bytes j) m ⊎ Some (Sent own 1 j (bytes j)) ms)
+          → (machineAfter own m s .segments j ≡ some (bytes j)) ⊎ Some (Sent own 1 j (bytes j)) ms
+      came j (inl e) = inl (ap (λ (x : Machine). x .segments j) next ∙ stays k j (s .segments) e)
+      came j (inr (inl p)) =
+          let same : k ≡ j = sym (sent-number own 1 k (bytes k) m h q) ∙ sent-number own 1 j (bytes j) m h p in
+          inl (ap (λ (x : Machine). x .segments j) next ∙ subst (λ (x : ℕ). with-segment k (s .segments) .segments x ≡ some (bytes x)) same (here k (s .segments)))
+      came j (inr (inr e)) = inr e
+
+-- ---- the receiver
+
+picked-some : (u : Bool) (x y : List ℕ) → cond u (some x) none ≡ some y → (u ≡ true) × (x ≡ y)
+picked-some true x y e = (refl, ap (λ (o : Option (List ℕ)). Option·getD o []) e)
+picked-some false x y e = absurd (never refl (sym (ap isSome e)))
+
+picked-none : (u : Bool) (x : List ℕ) → cond u (some x) none ≡ none → u ≡ false
+picked-none true x e = absurd (never refl (ap isSome e))
+picked-none false x e = refl
+
+pub sent-is-received : SentIsReceived
+unfolding SentIsReceived AsTheMachine received machineAfterAll Adds with-segment
+sent-is-received own last bytes before opening others places h long l q a each = (
+  whole-of-held (t .receiver) (same .0 ∙ (all .0 .opened)) (λ k g. stored k (subst (λ (x : ℕ). k ≤ x) last-is g) .0),
+  last-is,
+  (λ k. held k (leb k last) refl),
+  λ k g. stored k g .1,
+)
+  where
+    t : State
+    t = afterAll (before ++ received own (opening ∷ others)) (fresh places)
+
+    opened : Machine
+    opened = with-segment own last bytes h last (λ k. none)
+
+    final : Machine
+    final = machineAfterAll (received own others) opened
+
+    is-final : machineAfterAll (before ++ received own (opening ∷ others)) start ≡ final
+    is-final =
+        machine-after-append before (received own (opening ∷ others)) start
+        ∙ ap (machineAfterAll (received own others)) (opened-by own last bytes h l opening q (machineAfterAll before start))
+
+    same : Same t final
+    same = subst (Same t) is-final (as-the-machine places (before ++ received own (opening ∷ others)) long .1)
+
+    all : Partly own last bytes h final
+        × ((j : ℕ) → (opened .segments j ≡ some (bytes j)) ⊎ Some (Sent own 1 j (bytes j)) others → final .segments j ≡ some (bytes j))
+    all = along own last bytes h others a opened (stored-as-sent own last bytes h last (λ k. none) (le-refl last) (λ j. inl refl))
+
+    last-is : t .receiver .last ≡ last
+    last-is = same .1 ∙ all .0 .last-is
+
+    sent : (k : ℕ) → (k ≡ last) ⊎ (k < last) → final .segments k ≡ some (bytes k)
+    sent k (inl e) = all .1 k (inl (subst (λ (x : ℕ). opened .segments x ≡ some (bytes x)) (sym e) (here own last bytes h last (λ j. none))))
+    sent k (inr g) = all .1 k (inr (each k g))
+
+    stored : (k : ℕ) → k ≤ last → (isHeld (t .receiver .held) k ≡ true) × (segmentAt (t .places) k ≡ bytes k)
+    stored k g = picked-some (isHeld (t .receiver .held) k) (segmentAt (t .places) k) (bytes k) (same .2 k ∙ sent k (eq-or-lt-of-le g))
+
+    none-above : (k : ℕ) → last < k → (final .segments k ≡ none) ⊎ ((k ≤ last) × (final .segments k ≡ some (bytes k))) → final .segments k ≡ none
+    none-above k g (inl e) = e
+    none-above k g (inr e) = absurd (omega (arith, g, e .0))
+
+    held : (k : ℕ) (u : Bool) → leb k last ≡ u → isHeld (t .receiver .held) k ≡ u
+    held k true e = stored k (leb-true k last e) .0
+    held k false e = picked-none (isHeld (t .receiver .held) k) (segmentAt (t .places) k) (same .2 k ∙ none-above k (leb-false k last e) (all .0 .as-sent k))
+
+-- ---- bursts
+
+pub burst-changes-nothing : BurstChangesNothing
+unfolding BurstChangesNothing BurstNeverOwn
+burst-changes-nothing own m w d r places hm e b = (leaves .1, leaves .2, leaves .0)
+  where
+    hit : List ℕ
+    hit = inverted (interrogationAfter m own) d
+
+    not-own : (t : Bool) → isOwn (receptionOutcome own hit) ≡ t → t ≡ false
+    not-own true p = absurd (burst-never-own m own w d hm e b (sym (own-answer own hit p)))
+    not-own false p = refl
+
+    leaves : (receivingOutcome own hit r ≡ withProgress (receptionOutcome own hit) (progressOf r)) × (receiverAfter own hit r ≡ r) × (segmentsAfter own hit r places ≡ places)
+    leaves = other-leaves own hit r places (not-own (isOwn (receptionOutcome own hit)) refl)
