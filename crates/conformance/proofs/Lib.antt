@@ -15,3 +15,4 @@ pub mod Instances
 pub mod AltitudeInstances
 pub mod NoticingInstances
 pub mod PackingInstances
+pub mod UploadInstances

@@ -2,20 +2,20 @@
 -- machine, by its RC; along the steps every segment held is the one that was sent, and what is held stays; the receiver is the
 -- machine's. A hit interrogation is not own, and so does nothing.
 use mathlib.Core.Path.{_≡_, refl, sym, ap, ap₂, _∙_, subst}
-use mathlib.Core.Bool.{Bool, true, false, cond, _&&_}
+use mathlib.Core.Bool.{Bool, true, false, cond}
 use mathlib.Core.Logic.{_⊎_, inl, inr}
 use mathlib.Core.List.{List, [], _∷_, _++_}
 use mathlib.Core.Option.{Option, Option·getD}
 use mathlib.Core.Option.Option.{none, some}
-use Prim.Native.Nat.{ℕ, suc, _≤_, _<_}
+use Prim.Native.Nat.{ℕ, _≤_, _<_}
 use native.Mathlib.Nat.{le-refl, eq-or-lt-of-le}
 use native.Mathlib.Omega.{arith}
 use lib.Bits.{bitXor}
 use lib.Dec.{eqb, leb}
 use lib.ListN.{length, getD}
-use borrow.Author.Tests.{eqb-true, eq-eqb, ne-eqb, le-leb, leb-true, leb-false, lt-leb}
-use Rattle.outcome.specs.Outcomes.{done, Unrefused}
-use Rattle.outcome.proofs.Laws.{never, refusal-is-no-answer}
+use borrow.Author.Tests.{eqb-true, eq-eqb, ne-eqb, le-leb, leb-true, leb-false}
+use Rattle.outcome.specs.Outcomes.{done}
+use Rattle.outcome.proofs.Laws.{never}
 use Rattle.message.specs.Message.{number, Bytes, field}
 use Rattle.message.specs.Bits.{inverted}
 use Rattle.division.specs.Division.{parity, overlay}
@@ -24,15 +24,15 @@ use Rattle.encoder.specs.Seals.{withParity, sealOutcome, interrogationAfter}
 use Rattle.encoder.proofs.Laws.{was-accepted, interrogation-after, interrogation-is, sealed-length, sealed-first, sealed-field}
 use Rattle.transponder.specs.Receptions.{receptionOutcome, said}
 use Rattle.transponder.specs.declared.Reception.the-variants.{Own}
-use Rattle.uplink_elm.specs.Segments.{isExtended, replyControl, segmentNumber, segment, isHeld, segmentAt}
+use Rattle.uplink_elm.specs.Segments.{segmentNumber, segment, isHeld, segmentAt}
 use Rattle.uplink_elm.specs.Receiving.{isOwn, progressOf, withProgress, receivingOutcome, receiverAfter, segmentsAfter}
 use Rattle.uplink_elm.proofs.Laws.{own-answer, long-format, parts-by-first, segment-by-field, other-leaves, whole-of-held}
 use Rattle.uplink_elm_meaning.specs.Machine.{Machine, start, isSome, storing, does, resulting, machineAfter}
 use Rattle.uplink_elm_meaning.specs.Machine.Step.{refuses, becomes}
-use Rattle.uplink_elm_meaning.specs.Running.{Call, State, fresh, afterAll, machineAfterAll, kept, Same, AsTheMachine}
+use Rattle.uplink_elm_meaning.specs.Running.{State, fresh, afterAll, machineAfterAll, Same, AsTheMachine}
 use Rattle.uplink_elm_meaning.proofs.Laws.{as-the-machine, step-of-own, machine-after-append}
 use Rattle.conformance.specs.Accepting.{Due, OnlyOneIsDue, BurstNeverOwn}
-use Rattle.conformance.specs.Antennas.{Permitted, Whole, Taken}
+use Rattle.conformance.specs.Antennas.{Permitted, Taken}
 use Rattle.conformance.specs.Sealing.{SealedCallIsRead}
 use Rattle.conformance.specs.Uploads.{Sent, Each, Some, received, SentIsReceived, BurstChangesNothing}
 use Rattle.conformance.proofs.Sealing.{sealed-call-is-read}

@@ -17,7 +17,7 @@ use Rattle.division.specs.Division.{addressRead}
 use Rattle.transponder.specs.Receptions.{receptionOf, receptionOutcome, said as saidReception}
 use Rattle.transponder.specs.declared.Reception.{Reception}
 use Rattle.transponder.specs.declared.Reception.the-variants as R
-use Rattle.transponder.proofs.Laws.{Admitted, admitted}
+use Rattle.transponder.proofs.Laws.{admitted}
 use Rattle.uplink_elm.specs.declared.Receiver.{Receiver}
 use Rattle.uplink_elm.specs.declared.Progress.{Progress}
 use Rattle.uplink_elm.specs.declared.Answer.{Answer}
@@ -138,7 +138,7 @@ refused-leaves own m r s n e = by (receptionOutcome own m) e
     by : (o : Outcome) → outcomeOf (cond (isOwn o) (ownEffect m r) Nothing) o r ≡ refusal n
         → (receiverOf (cond (isOwn o) (ownEffect m r) Nothing) r ≡ r) × (segmentsOf (cond (isOwn o) (ownEffect m r) Nothing) m s ≡ s)
     by (refusal j) q = (refl, refl)
-    by (answer j vs) q = refused-effect (cond (eqb j 1) (ownEffect m r) Nothing) j vs m r s n q
+    by (answer j vs) q = refused-effect (cond (isOwn (answer j vs)) (ownEffect m r) Nothing) j vs m r s n q
 
 pub not-ours-said : (a : ℕ) (p q : Progress) → p ≡ q → said (A.NotOurs a p) ≡ said (A.NotOurs a q)
 not-ours-said a p q e = ap (λ (k : Progress). said (A.NotOurs a k)) e

@@ -15,7 +15,7 @@ use Rattle.message.specs.Message.{number, formatNumber}
 use Rattle.division.specs.Division.{addressRead}
 use Rattle.transponder.specs.Receptions.{receptionOf, receptionOutcome, said as saidReception}
 use Rattle.transponder.specs.declared.Reception.the-variants as R
-use Rattle.transponder.proofs.Laws.{Admitted, admitted}
+use Rattle.transponder.proofs.Laws.{admitted}
 use Rattle.uplink_elm.specs.declared.Receiver.{Receiver}
 use Rattle.uplink_elm.specs.declared.Effect.{Effect}
 use Rattle.uplink_elm.specs.declared.Effect.the-variants.{Refused, Nothing, Stored}

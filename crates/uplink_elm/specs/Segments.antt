@@ -1,7 +1,7 @@
 -- The parts of an interrogation of uplink format 24 (document 02, Point 7; Annex 10 Volume IV: UF 24, RC reply control, NC
 -- number of C-segment, MC), the numbers held as 16 bits, and the places of the segments.
 use Prim.Native.Nat.{ℕ, zero, suc, _+_, _*_, _-_, _/_, _%_, _^_}
-use mathlib.Core.Bool.{Bool, true, false, _&&_}
+use mathlib.Core.Bool.{Bool, true, _&&_}
 use mathlib.Core.List.{List, _++_}
 use lib.Bits.{bitOr}
 use lib.Dec.{eqb, ltb}

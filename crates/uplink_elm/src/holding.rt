@@ -39,7 +39,8 @@ fn all_held(held: u16, last: u8) -> bool
     false
 }
 
-fn is_held(held: u16, number: u8) -> bool
+// Whether a number is held; one above 15 never is.
+pub fn is_held(held: u16, number: u8) -> bool
     ensures { λ r. ⌜ r ≡ isHeld held number ⌝ }
 {
     if number < 16 {
@@ -62,6 +63,6 @@ pub(crate) fn bit_of(number: u8) -> u16
     requires { ⌜ number < 16 ⌝ }
     ensures { λ r. ⌜ r ≡ bitOf number ⌝ }
 {
-    let place = 15 - number;
-    1 << place
+    let shift = 15 - number;
+    1 << shift
 }

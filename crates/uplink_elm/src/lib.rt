@@ -15,6 +15,7 @@ ghost use Rattle.transponder.specs.Receptions.{said as saidReception};
 ghost use Rattle.transponder.specs.declared.Reception.the-variants.{Own};
 ghost use Rattle.uplink_elm.specs.Segments.{isExtended, segment, stored};
 ghost use Rattle.uplink_elm.specs.Receiving.{said, freshReceiver, openingEffect, addingEffect, effectOf, ownEffect, receiverOf, segmentsOf, outcomeOf, receivingOutcome, receiverAfter, segmentsAfter};
+pub use holding::is_held;
 use transponder::Reception;
 
 // Whether a message is opened, the number of its last segment, and the segments held: a bit for each of 16 numbers, the top

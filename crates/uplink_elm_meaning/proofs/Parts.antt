@@ -1,19 +1,17 @@
 -- The parts of an interrogation by its bits. The idea: the first byte is the number without its last 104 bits, and the segment what
 -- lies between it and the last 24.
 use mathlib.Core.Path.{_≡_, refl, sym, ap, ap₂, _∙_, subst}
-use mathlib.Core.Logic.{_↔_}
-use mathlib.Core.Bool.{true}
 use mathlib.Core.List.{List, [], _∷_}
-use Prim.Native.Nat.{ℕ, zero, suc, _+_, _-_, _*_, _/_, _%_, _^_, _<_, _≤_}
+use Prim.Native.Nat.{ℕ, _+_, _-_, _*_, _/_, _%_, _^_, _<_}
 use native.Mathlib.Omega.{arith}
-use lib.ListN.{length, getD, take, drop, length-drop}
+use lib.ListN.{length, take, drop, length-drop}
 use lib.Dec.{eqb}
 use lib.Pow.{shr-shr, high, low}
 use lib.Seq.{length-take-le}
 use borrow.Author.Tests.{eqb-true, eq-eqb}
 use Rattle.outcome.proofs.Laws.{every, tested}
 use Rattle.message.specs.Message.{number, Bytes}
-use Rattle.message.specs.Bits.{bits, bitAt}
+use Rattle.message.specs.Bits.{bitAt}
 use Rattle.message.proofs.Laws.{number-cons, number-split, number-lt, bytes-drop, bytes-take, bit-is}
 use Rattle.uplink_elm.specs.Segments.{isExtended, replyControl, segmentNumber, segment}
 use Rattle.uplink_elm.proofs.Laws.{segment-length}

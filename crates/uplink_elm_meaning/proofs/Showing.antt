@@ -1,7 +1,6 @@
 -- What the machine's answers say. The idea: a number built bit by bit has each bit where it was put; and each step keeps that no
 -- number above the last is held.
 use mathlib.Core.Path.{_≡_, refl, sym, ap, ap₂, _∙_, subst}
-use mathlib.Core.Logic.{_↔_}
 use mathlib.Core.Bool.{Bool, true, false, cond, _&&_}
 use mathlib.Core.List.{List, [], _∷_}
 use mathlib.Core.Option.{Option}
@@ -17,7 +16,7 @@ use Rattle.transponder.specs.Receptions.{receptionOutcome}
 use Rattle.uplink_elm.specs.Segments.{isExtended, replyControl, segmentNumber, segment, allBelow}
 use Rattle.uplink_elm.specs.Receiving.{one, isOwn}
 use Rattle.uplink_elm.proofs.Laws.{each-below, all-below}
-use Rattle.uplink_elm_meaning.specs.Machine.{Machine, start, Step, storing, opens, stores, does, isSome, holds, bitsBelow, acknowledgement, whole, step, resulting, machineAfter}
+use Rattle.uplink_elm_meaning.specs.Machine.{Machine, start, storing, opens, stores, does, isSome, holds, bitsBelow, acknowledgement, whole, step, resulting, machineAfter}
 use Rattle.uplink_elm_meaning.specs.Machine.Step.{refuses, becomes}
 use Rattle.uplink_elm_meaning.specs.Running.{Call, machineAfterAll, WholeWhenAllHeld, AcknowledgedWhenHeld, NoneAboveLast, StartsEmpty}
 

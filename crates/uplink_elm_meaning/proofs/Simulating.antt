@@ -23,7 +23,7 @@ use Rattle.uplink_elm.specs.Receiving.{one, isWhole, progressOf, withProgress, 
 use Rattle.uplink_elm.proofs.Laws.{held-lt, held-is, with-here, with-other, with-lt, first-number, nothing-held, stored-length, stored-here, stored-other, segment-length, own-answer, long-message, number-lt-16}
 use Rattle.uplink_elm_meaning.specs.Machine.{Machine, start, Step, storing, opens, stores, does, isSome, holds, bitsBelow, acknowledgement, whole, progress, step, resulting, showing, machineAfter, machineOutcome}
 use Rattle.uplink_elm_meaning.specs.Machine.Step.{refuses, becomes}
-use Rattle.uplink_elm_meaning.specs.Running.{Call, State, fresh, outcome, after, afterAll, answers, machineAfterAll, machineAnswers, kept, Same, AsTheMachine}
+use Rattle.uplink_elm_meaning.specs.Running.{Call, State, fresh, after, afterAll, answers, machineAfterAll, machineAnswers, Same, AsTheMachine}
 
 -- ---- the bits held are their numbers
 

@@ -9,8 +9,8 @@ use Rattle.uplink_elm.specs.Segments.{bitOf}
 use Rattle.uplink_elm.proofs.holding.bit_of.Statement.{statement}
 use Rattle.uplink_elm.proofs.holding.bit_of.Tie as tie
 
-sub-place : tie.Need-sub-place
-sub-place c = search needs
+sub-shift : tie.Need-sub-shift
+sub-shift c = search needs
 
 cast-result : tie.Need-cast-result
 cast-result c = search needs
@@ -23,4 +23,4 @@ unfolding bitOf
 returns c = shl-exact 1 _ 16 (lit< tt) (omega arith) ∙ one-mul _
 
 pub bit-of-spec : {M : Type 1} → statement M
-bit-of-spec = tie.close (tie.spec sub-place cast-result shl-result returns)
+bit-of-spec = tie.close (tie.spec sub-shift cast-result shl-result returns)
