@@ -11,6 +11,7 @@ use crate::{
     altitude_lines, antennas_lines, calls, calls_kinds, calls_lines, fast_calls, fast_sift,
     hit_replies, selftest,
 };
+use crate::{elm, elm_kinds, elm_lines};
 use crate::{roster, roster_kinds, roster_lines, sift, sift_kinds, sift_lines};
 use std::path::Path;
 use std::time::Instant;
@@ -87,6 +88,20 @@ const ROSTER: Subject = Subject {
     expected: |tally, input, aims| {
         roster::output_and_show(input, |k, met| {
             roster_kinds::count(tally, met, aims.get(k).and_then(Option::as_ref));
+        })
+    },
+    fast_difference: |_, _| None,
+};
+
+const ELM: Subject = Subject {
+    name: "elm",
+    any_line: elm_lines::any_line,
+    once: |_| Vec::new(),
+    round: elm_lines::round,
+    groups: elm_kinds::groups,
+    expected: |tally, input, aims| {
+        elm::output_and_show(input, |k, met| {
+            elm_kinds::count(tally, met, aims.get(k).and_then(Option::as_ref));
         })
     },
     fast_difference: |_, _| None,
@@ -218,6 +233,14 @@ fn say(equal: bool) {
 /// right and every kind was tried.
 pub fn compare_roster(roster: &Path) -> bool {
     let equal = compare_program(&ROSTER, roster);
+    say(equal);
+    equal
+}
+
+/// Compares a program that receives extended length messages; true if all is right and
+/// every kind was tried.
+pub fn compare_elm(elm: &Path) -> bool {
+    let equal = compare_program(&ELM, elm);
     say(equal);
     equal
 }

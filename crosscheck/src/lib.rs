@@ -4,7 +4,7 @@
 //! alone.
 //!
 //! It exists to disagree: it makes very many input lines for the programs
-//! `sift`, `calls` and `roster`, works out by its own means what they have to print,
+//! `sift`, `calls`, `roster` and `elm`, works out by its own means what they have to print,
 //! and compares byte for byte.
 //!
 //! The reference goes by bit lists, division as taught at school, and a
@@ -16,7 +16,7 @@
 //! - `altitude`: altitude codes, read and written;
 //! - `antennas`: the two-antenna transponder;
 //! - `text`: what both programs share of their line formats;
-//! - `sift`, `calls`, `roster`: what each program prints for a whole input;
+//! - `sift`, `calls`, `roster`, `elm`: what each program prints for a whole input;
 //! - `notices`: which changes of few bits, and of two bursts, leave no remainder;
 //! - `vectors`: published values that the reference itself has to meet.
 //!
@@ -25,9 +25,9 @@
 //! - `defects`: ways to spoil a well-formed line;
 //! - `blocks`: lines packed into inputs, and inputs of special sizes;
 //! - `sift_lines`, `calls_lines`, `sensor_lines`, `altitude_lines`,
-//!   `antennas_lines`, `roster_lines`: the makers of lines;
+//!   `antennas_lines`, `roster_lines`, `elm_lines`: the makers of lines;
 //! - `tally`, `sift_kinds`, `calls_kinds`, `sensor_kinds`, `altitude_kinds`,
-//!   `antennas_kinds`, `roster_kinds`: what was tried, and what must be;
+//!   `antennas_kinds`, `roster_kinds`, `elm_kinds`: what was tried, and what must be;
 //! - `run`: a program as a child process, and the first difference;
 //! - `hit_replies`: sealed replies that a burst has hit, and the built `sift` held
 //!   to what was sent;
@@ -55,6 +55,9 @@ pub mod calls_kinds;
 pub mod calls_lines;
 pub mod compare;
 pub mod defects;
+pub mod elm;
+pub mod elm_kinds;
+pub mod elm_lines;
 pub mod fast;
 pub mod fast_calls;
 pub mod fast_sift;

@@ -1,6 +1,6 @@
 //! The command line: see `USAGE`.
 
-use crosscheck::{calls, compare, limit, roster, selftest, sift, speed, speed_roster};
+use crosscheck::{calls, compare, elm, limit, roster, selftest, sift, speed, speed_roster};
 use std::io::{Read, Write};
 use std::path::Path;
 use std::process::ExitCode;
@@ -8,13 +8,14 @@ use std::process::ExitCode;
 const USAGE: &str = "\
 crosscheck compare CALLS SIFT   compare the built programs with the reference
 crosscheck compare ROSTER       the same of a program that runs the calls of the roll-call table
+crosscheck compare elm ELM      the same of a program that receives extended length messages
 crosscheck limit FOLDER         simulate what the density limit costs; table and pictures
 crosscheck limit FOLDER second=P missed=P near=P elsewhere=P
                                 the same for one model of your own, each P in percent
 crosscheck speed SIFT CALLS     measure the built programs against programs written for speed
 crosscheck speed ROSTER         measure a call on the roll-call table beside a map of the standard library
 crosscheck selftest             check the reference and the fast programs
-crosscheck answer sift|calls|roster
+crosscheck answer sift|calls|roster|elm
                                 answer standard input as the reference does
 ";
 
@@ -24,6 +25,7 @@ fn answer(name: &str) -> Result<(), String> {
         "sift" => sift::output,
         "calls" => calls::output,
         "roster" => roster::output,
+        "elm" => elm::output,
         _ => return Err(USAGE.to_string()),
     };
     let mut input = Vec::new();
@@ -33,6 +35,7 @@ fn answer(name: &str) -> Result<(), String> {
 
 fn run(arguments: &[&str]) -> Result<bool, String> {
     match arguments {
+        ["compare", "elm", elm] => Ok(compare::compare_elm(Path::new(elm))),
         ["compare", calls, sift] => compare::compare(Path::new(calls), Path::new(sift)),
         ["compare", roster] => Ok(compare::compare_roster(Path::new(roster))),
         ["limit", folder] => limit::limit(Path::new(folder)).map(|()| true),

@@ -1,0 +1,46 @@
+// A line by its name: what it does to the receiver, and the columns of its answer.
+use crate::answers::put_held;
+use crate::receiving;
+use reading::after;
+use reading::find;
+use uplink_elm::Receiver;
+
+// The receiver after a line, and how much of the output buffer is taken.
+pub(crate) struct Answered {
+    pub(crate) receiver: Receiver,
+    pub(crate) taken: usize,
+}
+
+// Makes the call of a line and appends the columns of its answer to what is taken of the output buffer.
+pub(crate) fn answer(
+    line: &[u8],
+    receiver: Receiver,
+    segments: &mut [u8; 160],
+    out: &mut [u8],
+    taken: usize,
+) -> Answered {
+    if check::same(line, b"fresh") {
+        return Answered {
+            receiver: uplink_elm::fresh(),
+            taken: text::put_bytes(out, taken, b" fresh - - - -"),
+        };
+    }
+    let end = find(line, b' ');
+    if check::same(&line[0..end], b"receive") {
+        return receiving::receive(after(line, end), receiver, segments, out, taken);
+    }
+    malformed(receiver, segments, out, taken)
+}
+
+pub(crate) fn malformed(
+    receiver: Receiver,
+    segments: &[u8],
+    out: &mut [u8],
+    taken: usize,
+) -> Answered {
+    let next = text::put_bytes(out, taken, b" malformed - - -");
+    Answered {
+        receiver: receiver,
+        taken: put_held(receiver.held, segments, out, next),
+    }
+}
