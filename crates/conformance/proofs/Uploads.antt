@@ -1,7 +1,7 @@
 -- Extended length messages from the encoder to the receiver. The idea: what was sealed for the own address is one step of the plain
 -- machine, by its RC; along the steps every segment held is the one that was sent, and what is held stays; the receiver is the
 -- machine's. A hit interrogation is not own, and so does nothing.
-use mathlib.Core.Path.{_≡_, refl, sym, ap, ap₂, _∙_, subst}
+use mathlib.Core.Path.{_≡_, refl, sym, ap, _∙_, subst}
 use mathlib.Core.Bool.{Bool, true, false, cond}
 use mathlib.Core.Logic.{_⊎_, inl, inr}
 use mathlib.Core.List.{List, [], _∷_, _++_}
@@ -13,7 +13,7 @@ use native.Mathlib.Omega.{arith}
 use lib.Bits.{bitXor}
 use lib.Dec.{eqb, leb}
 use lib.ListN.{length, getD}
-use borrow.Author.Tests.{eqb-true, eq-eqb, ne-eqb, le-leb, leb-true, leb-false}
+use borrow.Author.Tests.{eqb-true, eq-eqb, leb-true, leb-false}
 use Rattle.outcome.specs.Outcomes.{done}
 use Rattle.outcome.proofs.Laws.{never}
 use Rattle.message.specs.Message.{number, Bytes, field}
@@ -28,9 +28,8 @@ use Rattle.uplink_elm.specs.Segments.{segmentNumber, segment, isHeld, segmentAt
 use Rattle.uplink_elm.specs.Receiving.{isOwn, progressOf, withProgress, receivingOutcome, receiverAfter, segmentsAfter}
 use Rattle.uplink_elm.proofs.Laws.{own-answer, long-format, parts-by-first, segment-by-field, other-leaves, whole-of-held}
 use Rattle.uplink_elm_meaning.specs.Machine.{Machine, start, isSome, storing, does, resulting, machineAfter}
-use Rattle.uplink_elm_meaning.specs.Machine.Step.{refuses, becomes}
-use Rattle.uplink_elm_meaning.specs.Running.{State, fresh, afterAll, machineAfterAll, Same, AsTheMachine}
-use Rattle.uplink_elm_meaning.proofs.Laws.{as-the-machine, step-of-own, machine-after-append}
+use Rattle.uplink_elm_meaning.specs.Running.{State, fresh, afterAll, machineAfterAll, Same}
+use Rattle.uplink_elm_meaning.proofs.Laws.{same-all, machine-after-none, machine-after-one, machine-after-append, step-of-own, opened-with, added-to}
 use Rattle.conformance.specs.Accepting.{Due, OnlyOneIsDue, BurstNeverOwn}
 use Rattle.conformance.specs.Antennas.{Permitted, Taken}
 use Rattle.conformance.specs.Sealing.{SealedCallIsRead}
@@ -108,34 +107,32 @@ module _ (own last : ℕ) (bytes : ℕ → List ℕ) (h : Permitted own) where
       by false g = e
 
   opened-by : 1 ≤ last → (m : List ℕ) → Sent own 0 last (bytes last) m → (s : Machine) → machineAfter own m s ≡ with-segment last (λ k. none)
-  unfolding does with-segment
-  opened-by l m q s =
-      sent-step own 0 last (bytes last) m h q s
-      ∙ ap (λ (t : Bool). resulting (cond t (refuses 10) (becomes (with-segment last (λ k. none)))) s) (ne-eqb last 0 (λ z. omega (arith, z, l)))
+  unfolding with-segment
+  opened-by l m q s = sent-step own 0 last (bytes last) m h q s ∙ opened-with last (bytes last) s (λ z. omega (arith, z, l))
 
   added-by : (k : ℕ) (m : List ℕ) → k ≤ last → Sent own 1 k (bytes k) m → (s : Machine) → Partly s → machineAfter own m s ≡ with-segment k (s .segments)
-  unfolding does with-segment
+  unfolding with-segment
   added-by k m l q s g =
-      sent-step own 1 k (bytes k) m h q s
-      ∙ ap₂ (λ (t u : Bool). resulting (cond t (cond u (becomes (record { opened = true; last = s .last; segments = storing k (bytes k) (s .segments) })) (refuses 11)) (refuses 10)) s)
-      (g .opened) (le-leb k (s .last) (subst (λ (x : ℕ). k ≤ x) (sym (g .last-is)) l))
+      sent-step own 1 k (bytes k) m h q s ∙ added-to k (bytes k) s (g .opened) (subst (λ (x : ℕ). k ≤ x) (sym (g .last-is)) l)
       ∙ ap (λ (x : ℕ). record { opened = true; last = x; segments = storing k (bytes k) (s .segments) }) (g .last-is)
 
   Adds : List ℕ → Type 0
   Adds m = (k : ℕ) × ((k ≤ last) × Sent own 1 k (bytes k) m)
 
-  along : (ms : List (List ℕ)) → Each Adds ms → (s : Machine) → Partly s
-      → Partly (machineAfterAll (received own ms) s)
-      × ((j : ℕ) → (s .segments j ≡ some (bytes j)) ⊎ Some (Sent own 1 j (bytes j)) ms → machineAfterAll (received own ms) s .segments j ≡ some (bytes j))
-  unfolding Each Some received machineAfterAll Adds
-  along [] a s g = (g, only)
+  -- a machine x that some messages leave of s
+  Left : List (List ℕ) → Machine → Machine → Type 0
+  Left ms s x = Partly x × ((j : ℕ) → (s .segments j ≡ some (bytes j)) ⊎ Some (Sent own 1 j (bytes j)) ms → x .segments j ≡ some (bytes j))
+
+  along : (ms : List (List ℕ)) → Each Adds ms → (s : Machine) → Partly s → Left ms s (machineAfterAll (received own ms) s)
+  unfolding Each Some received Adds Left
+  along [] a s g = subst (Left [] s) (sym (machine-after-none s)) (g, only)
     where
       only : (j : ℕ) → (s .segments j ≡ some (bytes j)) ⊎ ⊥ → s .segments j ≡ some (bytes j)
       only j (inl e) = e
       only j (inr e) = absurd e
   along (m ∷ ms) ((k, (l, q)), a) s g =
       let rest = along ms a (machineAfter own m s) (subst Partly (sym (added-by k m l q s g)) (stored-as-sent k (s .segments) l (g .as-sent))) in
-      (rest .0, λ j e. rest .1 j (came j e))
+      subst (Left (m ∷ ms) s) (sym (machine-after-one _ (received own ms) s)) (rest .0, λ j e. rest .1 j (came j e))
     where
       next : machineAfter own m s ≡ with-segment k (s .segments)
       next = added-by k m l q s g
@@ -159,7 +156,7 @@ picked-none true x e = absurd (never refl (ap isSome e))
 picked-none false x e = refl
 
 pub sent-is-received : SentIsReceived
-unfolding SentIsReceived AsTheMachine received machineAfterAll Adds with-segment
+unfolding SentIsReceived received Adds Left with-segment
 sent-is-received own last bytes before opening others places h long l q a each = (
   whole-of-held (t .receiver) (same .0 ∙ (all .0 .opened)) (λ k g. stored k (subst (λ (x : ℕ). k ≤ x) last-is g) .0),
   last-is,
@@ -179,10 +176,11 @@ sent-is-received own last bytes before opening others places h long l q a each =
     is-final : machineAfterAll (before ++ received own (opening ∷ others)) start ≡ final
     is-final =
         machine-after-append before (received own (opening ∷ others)) start
+        ∙ machine-after-one _ (received own others) (machineAfterAll before start)
         ∙ ap (machineAfterAll (received own others)) (opened-by own last bytes h l opening q (machineAfterAll before start))
 
     same : Same t final
-    same = subst (Same t) is-final (as-the-machine places (before ++ received own (opening ∷ others)) long .1)
+    same = subst (Same t) is-final (same-all places (before ++ received own (opening ∷ others)) long)
 
     all : Partly own last bytes h final
         × ((j : ℕ) → (opened .segments j ≡ some (bytes j)) ⊎ Some (Sent own 1 j (bytes j)) others → final .segments j ≡ some (bytes j))

@@ -10,7 +10,7 @@ use native.Mathlib.Omega.{arith}
 use lib.Dec.{eqb, leb, lit<}
 use lib.ListN.{length}
 use lib.Pow.{shr-shr}
-use borrow.Author.Tests.{eqb-true, eqb-false}
+use borrow.Author.Tests.{eqb-true, eqb-false, ne-eqb, le-leb}
 use Rattle.outcome.specs.Outcomes.{Outcome}
 use Rattle.transponder.specs.Receptions.{receptionOutcome, said}
 use Rattle.transponder.specs.declared.Reception.the-variants.{Own}
@@ -225,6 +225,18 @@ as-the-machine places cs h = let all = good-all cs (fresh places) start (good-fr
 
 -- ---- the machine, call by call
 
+pub same-all : (places : List ℕ) (cs : List Call) → length places ≡ 160 → Same (afterAll cs (fresh places)) (machineAfterAll cs start)
+unfolding AsTheMachine
+same-all places cs h = as-the-machine places cs h .1
+
+pub machine-after-none : (s : Machine) → machineAfterAll [] s ≡ s
+unfolding machineAfterAll
+machine-after-none s = refl
+
+pub machine-after-one : (c : Call) (cs : List Call) (s : Machine) → machineAfterAll (c ∷ cs) s ≡ machineAfterAll cs (machineAfter (c .own) (c .message) s)
+unfolding machineAfterAll
+machine-after-one c cs s = refl
+
 pub machine-after-append : (cs ds : List Call) (s : Machine) → machineAfterAll (cs ++ ds) s ≡ machineAfterAll ds (machineAfterAll cs s)
 unfolding machineAfterAll
 machine-after-append [] ds s = refl
@@ -237,3 +249,17 @@ unfolding machineAfter step
 step-of-own own m c n b s e f h i j =
     ap (λ (t : Bool). resulting (cond t (does (replyControl m) (segmentNumber m) (segment m) s) (becomes s)) s) (ap₂ _&&_ (ap isOwn e) f)
     ∙ ap (λ (x : ℕ). resulting (does x (segmentNumber m) (segment m) s) s) h ∙ ap₂ (λ (x : ℕ) (y : List ℕ). resulting (does c x y s) s) i j
+
+-- what RC 0 and RC 1 make of it, where no row refuses
+pub opened-with : (n : ℕ) (b : List ℕ) (s : Machine) → (n ≡ 0 → ⊥)
+    → resulting (does 0 n b s) s ≡ record { opened = true; last = n; segments = storing n b (λ k. none) }
+unfolding does
+opened-with n b s h =
+    ap (λ (t : Bool). resulting (cond t (refuses 10) (becomes (record { opened = true; last = n; segments = storing n b (λ k. none) }))) s) (ne-eqb n 0 h)
+
+pub added-to : (n : ℕ) (b : List ℕ) (s : Machine) → s .opened ≡ true → n ≤ s .last
+    → resulting (does 1 n b s) s ≡ record { opened = true; last = s .last; segments = storing n b (s .segments) }
+unfolding does
+added-to n b s e h =
+    ap₂ (λ (t u : Bool). resulting (cond t (cond u (becomes (record { opened = true; last = s .last; segments = storing n b (s .segments) })) (refuses 11)) (refuses 10)) s)
+    e (le-leb n (s .last) h)
