@@ -4,7 +4,7 @@ use mathlib.Core.Path.{_≡_, refl}
 use mathlib.Core.Bool.{true}
 use mathlib.Core.Logic.{inl}
 use mathlib.Core.List.{List, [], _∷_, _++_}
-use Prim.Native.Nat.{ℕ, zero, suc, _*_, _/_, _%_, _^_, _<_}
+use Prim.Native.Nat.{ℕ, zero, suc, _*_, _/_, _%_, _^_, _<_, _≤_}
 use native.Mathlib.Nat.{not-suc-le-zero, le-of-suc-le-suc}
 use native.Mathlib.Omega.{arith}
 use lib.Dec.{lit<, lit≤}
@@ -19,8 +19,9 @@ use Rattle.transponder.specs.Receptions.{receptionOf, isReserved, receptionOutc
 use Rattle.uplink_elm.specs.declared.Receiver.{Receiver}
 use Rattle.uplink_elm.specs.Segments.{isExtended, replyControl, segmentNumber, segment, bitOf, isHeld, withNumber, allBelow, stored}
 use Rattle.uplink_elm.specs.Receiving.{freshReceiver, isWhole, effectOf, ownEffect, callEffect, receivingOutcome, receiverAfter, segmentsAfter}
-use Rattle.uplink_elm_meaning.specs.Running.{fresh, afterAll, answers, PartsAreBits}
-use Rattle.uplink_elm_meaning.proofs.Laws.{parts-are-bits}
+use Rattle.uplink_elm_meaning.specs.Running.{fresh, afterAll, answers, machineAfterAll, NoneAboveLast, PartsAreBits}
+use Rattle.uplink_elm_meaning.specs.Machine.{start, does, step, machineAfter}
+use Rattle.uplink_elm_meaning.proofs.Laws.{parts-are-bits, none-above-last}
 use Rattle.conformance.specs.Antennas.{Permitted}
 use Rattle.conformance.specs.Bursts.{Burst}
 use Rattle.conformance.specs.Uploads.{Sent, Each, Some, received, SentIsReceived, BurstChangesNothing}
@@ -127,3 +128,10 @@ hit-met =
 parts-met : number (segment opening) ≡ number opening / 2 ^ 24 % 2 ^ 80
 unfolding PartsAreBits opening
 parts-met = parts-are-bits opening (are-bytes opening refl) refl .4
+
+-- ---- the machine: after the opening it holds its last number, which is not above the last
+
+machine-met : (machineAfterAll (received own (interrogationAfter opening own ∷ [])) start .opened ≡ true)
+    × (1 ≤ machineAfterAll (received own (interrogationAfter opening own ∷ [])) start .last)
+unfolding NoneAboveLast own opening received polynomial downwards product generator generatorPowers reduce divide quotient remainder parity overlay addressRead number field formatNumber firstBit firstBitAgrees isMessageLength isWord wordBytes withParity interrogationParity interrogationSeal sealOutcome interrogationAfter receptionOf isReserved receptionOutcome isExtended replyControl segmentNumber segment does step machineAfter machineAfterAll
+machine-met = none-above-last (received own (interrogationAfter opening own ∷ [])) 1 refl

@@ -57,7 +57,8 @@ withProgress (answer n vs) p = answer n (vs ++ progressValues p)
 abbrev pub openingEffect : ℕ → Effect
 openingEffect n = cond (eqb n 0) (Refused nothingOpened) (Stored (record { opened = true; last = n; held = bitOf n }))
 
--- RC 1 and RC 2 store segment NC.
+-- RC 1 and RC 2 store segment NC. 'Checks ..: 10, RC 1 or 2 with nothing opened, or RC 0 with NC 0; 11, RC 1 or 2 with NC above the
+-- opened last; in that order'.
 abbrev pub addingEffect : ℕ → Receiver → Effect
 addingEffect n r =
     cond (r .opened)

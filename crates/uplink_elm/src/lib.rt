@@ -47,7 +47,8 @@ pub struct Received {
     pub receiver: Receiver,
 }
 
-// What an interrogation of format 24 does: it is refused, changes nothing, or stores its segment and leaves this receiver.
+// What an interrogation of format 24 does: it is refused, changes nothing, or stores its segment and leaves this receiver. No
+// public function gives one; it is public for the proofs about lists of calls.
 pub enum Effect {
     Refused(u32),
     Nothing,
