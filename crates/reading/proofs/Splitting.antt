@@ -1,16 +1,17 @@
 -- Lines and columns, one after the other.
 use mathlib.Core.Path.{_≡_, refl, sym, ap, _∙_}
 use mathlib.Core.Bool.{Bool, true, false, cond}
-use mathlib.Core.List.{List, [], _∷_}
-use Prim.Native.Nat.{ℕ, suc, _+_, _<_, _≤_}
+use mathlib.Core.List.{List, [], _∷_, _++_}
+use Prim.Native.Nat.{ℕ, suc, _+_, _-_, _<_, _≤_}
 use native.Mathlib.Numerals.{add-one}
 use native.Mathlib.Omega.{arith}
-use lib.ListN.{length, take, drop}
-use lib.Seq.{take-all}
+use lib.ListN.{length, take, drop, length-drop}
+use lib.Seq.{take-all, length-take-le, drop-drop}
 use lib.Dec.{eqb, ltb}
-use borrow.Author.Tests.{ltb-true, ltb-false}
+use borrow.Author.Tests.{ltb-true, ltb-false, eq-eqb, ne-eqb}
 use Rattle.text.specs.Ascii.{space, lineFeed}
-use Rattle.text.proofs.Laws.{no-more}
+use Rattle.outcome.proofs.Laws.{part-from}
+use Rattle.text.proofs.Laws.{no-more, picked, passed-over, above, above-parts}
 use Rattle.reading.specs.Lines.{inFirst, lines, columns, before}
 
 -- ---- what stands in front of a byte is a part of the list
@@ -69,6 +70,16 @@ module _ (b : ℕ) (pieces : List ℕ → List (List ℕ)) (step : (x : ℕ) (s 
   only-piece none x [] h = step x [] ∙ one-more x [] (eqb x b) h (λ j. none x)
   only-piece none x (y ∷ s) h = step x (y ∷ s) ∙ one-more x (y ∷ s) (eqb x b) h (λ j. ap (inFirst x) (only-piece none y s j))
 
+  -- a text of bytes above b, a b, and more: the text is the first piece
+  piece-then : (a t : List ℕ) → above b a ≡ true → pieces (a ++ b ∷ t) ≡ a ∷ pieces t
+  piece-then [] t e = step b t ∙ picked (eqb b b) ([] ∷ pieces t) (inFirst b (pieces t)) (eq-eqb b b refl)
+  piece-then (x ∷ a) t e =
+      let parts = above-parts b x a e in
+      let other : x ≡ b → ⊥ = λ f. omega (arith, parts .0) in
+      step x (a ++ b ∷ t)
+      ∙ passed-over (eqb x b) ([] ∷ pieces (a ++ b ∷ t)) (inFirst x (pieces (a ++ b ∷ t))) (ne-eqb x b other)
+      ∙ ap (inFirst x) (piece-then a t (parts .1))
+
 -- ---- columns
 
 -- the first column is what stands in front of the first space
@@ -94,6 +105,20 @@ unfolding columns
 whole-column [] k e h = refl
 whole-column (x ∷ s) k e h = only-piece space columns (λ x s. refl) (λ x. refl) x s (omega arith)
 
+-- a text of bytes above the space is a column, alone and in front of a space
+pub column-alone : (a : List ℕ) → above space a ≡ true → columns a ≡ a ∷ []
+unfolding columns
+column-alone [] e = refl
+column-alone (x ∷ a) e =
+    let parts = above-parts space x a e in
+    let other : x ≡ space → ⊥ = λ f. omega (arith, parts .0) in
+    passed-over (eqb x space) ([] ∷ columns a) (inFirst x (columns a)) (ne-eqb x space other)
+    ∙ ap (inFirst x) (column-alone a (parts .1))
+
+pub column-then : (a t : List ℕ) → above space a ≡ true → columns (a ++ space ∷ t) ≡ a ∷ columns t
+unfolding columns
+column-then = piece-then space columns (λ x s. refl)
+
 -- ---- lines
 
 -- a text that has a byte, when the search for the line feed found the place k
@@ -113,3 +138,33 @@ split-line (x ∷ s) k e h = cases (ltb k (suc (length s))) refl
 pub no-line-left : (s : List ℕ) (i : ℕ) → length s ≤ i → lines (drop i s) ≡ []
 unfolding lines
 no-line-left s i h = ap lines (no-more s i h)
+
+-- a text of bytes above the line feed, in front of one
+pub line-then : (a t : List ℕ) → above lineFeed a ≡ true → lines (a ++ lineFeed ∷ t) ≡ a ∷ lines t
+unfolding lines
+line-then = piece-then lineFeed lines (λ x s. refl)
+
+-- ---- the lines of a text from a place on, when the search for the line feed in `&text[at..]` found the place k
+
+module _ (text : List ℕ) (at k : ℕ) (e : k ≡ length (before lineFeed (take (length text - at) (drop at text)))) where
+  pub next-line : at < length text
+      → lines (drop at text) ≡ take k (take (length text - at) (drop at text)) ∷ lines (drop (at + k + 1) text)
+  next-line h =
+      let rest : List ℕ = drop at text in
+      let part : take (length text - at) rest ≡ rest = part-from at text in
+      let some : 0 < length rest = omega (arith, length-drop at text) in
+      let sum : at + (k + 1) ≡ at + k + 1 = omega arith in
+      split-line rest k (e ∙ ap (λ (l : List ℕ). length (before lineFeed l)) part) some
+      ∙ ap (λ (l : List ℕ). take k l ∷ lines (drop (k + 1) rest)) (sym part)
+      ∙ ap (λ (l : List ℕ). take k (take (length text - at) rest) ∷ lines l)
+      (drop-drop (k + 1) at text ∙ ap (λ (j : ℕ). drop j text) sum)
+
+  -- the place found lies within the text
+  pub line-within : at < length text → at + k ≤ length text
+  line-within h =
+      omega (arith, before-le lineFeed (take (length text - at) (drop at text)), ap length (part-from at text), length-drop at text)
+
+  pub line-taken : k ≡ length (take k (take (length text - at) (drop at text)))
+  line-taken =
+      let rest : List ℕ = take (length text - at) (drop at text) in
+      sym (length-take-le k rest (omega (arith, before-le lineFeed rest)))

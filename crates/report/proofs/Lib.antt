@@ -1,3 +1,5 @@
 -- The laws of the report.
 pub mod Forms
 pub mod Texts
+pub mod Rows
+pub mod Laws

@@ -4,7 +4,7 @@ use mathlib.Core.List.{List, [], _∷_, _++_, append-assoc, append-nil}
 use Prim.Native.Nat.{ℕ, _+_, _-_, _*_, _<_, _≤_}
 use native.Mathlib.Omega.{arith}
 use lib.ListN.{length, take, drop, length-append, length-drop}
-use lib.Seq.{length-take-le, drop-drop}
+use lib.Seq.{length-take-le}
 use lib.Dec.{leb}
 use borrow.Author.Tests.{le-leb, lt-leb}
 use mathlib.Core.Bool.{true, false}
@@ -13,9 +13,8 @@ use Rattle.reading.specs.Lines.{before, columns, lines}
 use Rattle.text.specs.Output.{Place, append}
 use Rattle.text.specs.Digits.{decimalText}
 use Rattle.reading.specs.Digits.{hexBytes, hexNumber, decimalNumber}
-use Rattle.outcome.proofs.Laws.{part-from}
 use Rattle.text.proofs.Laws.{decimal-length, picked, passed-over}
-use Rattle.reading.proofs.Laws.{before-le, split-column, whole-column, split-line, no-line-left}
+use Rattle.reading.proofs.Laws.{split-column, whole-column, next-line, no-line-left}
 use Rattle.request.specs.Requests.{wellFormed}
 use Rattle.verdicts.specs.Columns.{spaced}
 use Rattle.verdicts.proofs.Laws.{spaced-nil, spaced-cons, spaced-append}
@@ -117,35 +116,15 @@ line-length n line h k =
     omega (arith, length-append (decimalText n) (answerText (columns line)))
 
 -- the output for what is left of the input: its first line, when the search for the line feed found the place k, and the others
-pub next-line : (input : List ℕ) (at k n : ℕ) → at < length input → k ≡ length (before lineFeed (take (length input - at) (drop at input)))
+pub next-output : (input : List ℕ) (at k n : ℕ) → at < length input → k ≡ length (before lineFeed (take (length input - at) (drop at input)))
     → outputLines n (lines (drop at input))
     ≡ outputLine n (take k (take (length input - at) (drop at input))) ++ outputLines (n + 1) (lines (drop (at + k + 1) input))
 unfolding outputLines
-next-line input at k n h e =
-    let rest : List ℕ = drop at input in
-    let part : take (length input - at) rest ≡ rest = part-from at input in
-    let some : 0 < length rest = omega (arith, length-drop at input) in
-    let sum : at + (k + 1) ≡ at + k + 1 = omega arith in
-    ap (outputLines n) (split-line rest k (e ∙ ap (λ (l : List ℕ). length (before lineFeed l)) part) some)
-    ∙ ap (λ (l : List ℕ). outputLine n (take k l) ++ outputLines (n + 1) (lines (drop (k + 1) rest))) (sym part)
-    ∙ ap (λ (l : List ℕ). outputLine n (take k (take (length input - at) rest)) ++ outputLines (n + 1) (lines l))
-    (drop-drop (k + 1) at input ∙ ap (λ (j : ℕ). drop j input) sum)
+next-output input at k n h e = ap (outputLines n) (next-line input at k e h)
 
 pub no-line : (input : List ℕ) (at n : ℕ) → length input ≤ at → outputLines n (lines (drop at input)) ≡ []
 unfolding outputLines
 no-line input at n h = ap (outputLines n) (no-line-left input at h)
-
--- the place found lies within the input
-pub line-within : (input : List ℕ) (at k : ℕ) → at < length input → k ≡ length (before lineFeed (take (length input - at) (drop at input)))
-    → at + k ≤ length input
-line-within input at k h e =
-    omega (arith, before-le lineFeed (take (length input - at) (drop at input)), ap length (part-from at input), length-drop at input)
-
-pub line-taken : (input : List ℕ) (at k : ℕ) → k ≡ length (before lineFeed (take (length input - at) (drop at input)))
-    → k ≡ length (take k (take (length input - at) (drop at input)))
-line-taken input at k e =
-    let rest : List ℕ = take (length input - at) (drop at input) in
-    sym (length-take-le k rest (omega (arith, before-le lineFeed rest)))
 
 -- ---- the whole output
 

@@ -2,5 +2,6 @@
 pub mod Parts
 pub mod Appending
 pub mod Spelling
+pub mod Above
 pub mod Signs
 pub mod Laws

@@ -13,7 +13,7 @@ use Rattle.outcome.specs.Outcomes.Outcome.{refusal}
 use Rattle.sensor.specs.Verdicts.{soleMark, severalMark, cleanAnswer, denseAnswer, noFitAnswer, correctedAnswer, said, markOf}
 use Rattle.sensor.specs.declared.Mark.{Mark}
 use Rattle.sensor.specs.declared.Verdict.{Verdict}
-use Rattle.verdicts.specs.Columns.{answerWord, markWord, outcomeColumns, spaced}
+use Rattle.verdicts.specs.Columns.{answerWord, markWord, lacking, outcomeColumns, spaced}
 
 -- ---- columns
 
@@ -30,6 +30,32 @@ unfolding spaced
 spaced-append [] ds = refl
 spaced-append (c ∷ cs) ds =
     ap (λ (t : List ℕ). (space ∷ c) ++ t) (spaced-append cs ds) ∙ sym (append-assoc (space ∷ c) (spaced cs) (spaced ds))
+
+-- ---- the columns of each answer
+
+pub refused-columns : (n : ℕ) → outcomeColumns (refusal n) ≡ ascii "refused" ∷ decimalText n ∷ lacking ∷ lacking ∷ []
+unfolding outcomeColumns
+refused-columns n = refl
+
+pub clean-columns : outcomeColumns cleanAnswer ≡ ascii "clean" ∷ lacking ∷ lacking ∷ lacking ∷ []
+unfolding outcomeColumns answerWord
+clean-columns = refl
+
+pub dense-columns : (w : ℕ) → outcomeColumns (denseAnswer w) ≡ ascii "dense" ∷ decimalText w ∷ lacking ∷ lacking ∷ []
+unfolding outcomeColumns answerWord
+dense-columns w = refl
+
+pub nofit-columns : outcomeColumns noFitAnswer ≡ ascii "nofit" ∷ lacking ∷ lacking ∷ lacking ∷ []
+unfolding outcomeColumns answerWord
+nofit-columns = refl
+
+pub sole-columns : (w b : ℕ) → outcomeColumns (correctedAnswer w b soleMark) ≡ ascii "corrected" ∷ decimalText w ∷ decimalText b ∷ ascii "sole" ∷ []
+unfolding outcomeColumns answerWord markWord
+sole-columns w b = refl
+
+pub several-columns : (w b : ℕ) → outcomeColumns (correctedAnswer w b severalMark) ≡ ascii "corrected" ∷ decimalText w ∷ decimalText b ∷ ascii "several" ∷ []
+unfolding outcomeColumns answerWord markWord
+several-columns w b = refl
 
 -- ---- verdicts
 

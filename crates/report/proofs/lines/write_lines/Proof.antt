@@ -10,7 +10,8 @@ use Rattle.reading.specs.Lines.{lines}
 use Rattle.text.specs.Output.{append}
 use Rattle.text.proofs.Laws.{part-done, all-done}
 use Rattle.report.specs.Sift.{outputLine, outputLines}
-use Rattle.report.proofs.Texts.{next-line, no-line, line-within, line-taken}
+use Rattle.reading.proofs.Laws.{line-within, line-taken}
+use Rattle.report.proofs.Texts.{next-output, no-line}
 use Rattle.report.proofs.lines.write_lines.Statement.{statement}
 use Rattle.report.proofs.lines.write_lines.Tie as tie
 
@@ -35,7 +36,7 @@ within : (c : tie.After-line-size Inv-loop μ-loop)
     → c .before .before .before .before .loop .at + c .line-size .result ≤ length (c .before .before .before .before .before .before .before .args .input .now)
 within c =
     line-within (c .before .before .before .before .before .before .before .args .input .now) (c .before .before .before .before .loop .at) (c .line-size .result)
-    (more (c .before .before)) (c .line-size .ensures)
+    (c .line-size .ensures) (more (c .before .before))
 
 loop-holds : tie.Need-loop-holds Inv-loop μ-loop
 loop-holds c = (omega arith, omega arith, refl, refl, omega arith)
@@ -86,7 +87,7 @@ loop-again c =
     let kept : length (put .last .0) ≡ length (l .out) = put .kept .0 in
     let e : (put .last .0, put .result) ≡ append (l .out, l .next) text = put .ensures .0 in
     let split : outputLines (l .number) (lines (drop (l .at) input)) ≡ text ++ others =
-    next-line input (l .at) k (l .number) (more (c .before .before .before .before .before .before .before)) (c .before .before .before .before .before .line-size .ensures) in
+    next-output input (l .at) k (l .number) (more (c .before .before .before .before .before .before .before)) (c .before .before .before .before .before .line-size .ensures) in
     let size : k ≡ length (take k rest) = line-taken input (l .at) k (c .before .before .before .before .before .line-size .ensures) in
     let short : length text ≤ 24 * (length (take k rest) + 1) = put .ensures .1 in
     let inside : l .at + k ≤ length input = within (c .before .before .before .before .before) in (
