@@ -6,3 +6,4 @@ pub mod Pages
 pub mod Answered
 pub mod Printing
 pub mod Stated
+pub mod Instances
