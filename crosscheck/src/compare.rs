@@ -12,7 +12,7 @@ use crate::{
     hit_replies, selftest,
 };
 use crate::{elm, elm_kinds, elm_lines};
-use crate::{roster, roster_kinds, roster_lines, sift, sift_kinds, sift_lines};
+use crate::{roster, roster_kinds, roster_lines, shift_report, sift, sift_kinds, sift_lines};
 use std::path::Path;
 use std::time::Instant;
 
@@ -102,6 +102,30 @@ const ELM: Subject = Subject {
     expected: |tally, input, aims| {
         elm::output_and_show(input, |k, met| {
             elm_kinds::count(tally, met, aims.get(k).and_then(Option::as_ref));
+        })
+    },
+    fast_difference: |_, _| None,
+};
+
+/// The group of names of a page, which a run has to have counted all.
+const NAMED: &str = "lines counted for a name";
+
+/// The lines are `sift`'s.
+const TALLY: Subject = Subject {
+    name: "tally",
+    any_line: sift_lines::any_line,
+    once: |_| Vec::new(),
+    round: sift_lines::round,
+    groups: |special| {
+        let mut groups = sift_kinds::groups(special);
+        groups.push(crate::tally::Group::each(NAMED, shift_report::NAMES));
+        groups
+    },
+    expected: |tally, input, aims| {
+        let lines = crate::text::lines(input);
+        shift_report::output_and_show(input, |k, judged| {
+            sift_kinds::count(tally, lines[k], judged, aims.get(k).and_then(Option::as_ref));
+            tally.add(NAMED, shift_report::name_of(judged));
         })
     },
     fast_difference: |_, _| None,
@@ -241,6 +265,14 @@ pub fn compare_roster(roster: &Path) -> bool {
 /// every kind was tried.
 pub fn compare_elm(elm: &Path) -> bool {
     let equal = compare_program(&ELM, elm);
+    say(equal);
+    equal
+}
+
+/// Compares the program that counts `sift`'s answers; true if all is right and
+/// every kind was tried.
+pub fn compare_tally(tally: &Path) -> bool {
+    let equal = compare_program(&TALLY, tally);
     say(equal);
     equal
 }

@@ -4,7 +4,7 @@
 //! alone.
 //!
 //! It exists to disagree: it makes very many input lines for the programs
-//! `sift`, `calls`, `roster` and `elm`, works out by its own means what they have to print,
+//! `sift`, `tally`, `calls`, `roster` and `elm`, works out by its own means what they have to print,
 //! and compares byte for byte.
 //!
 //! The reference goes by bit lists, division as taught at school, and a
@@ -17,6 +17,7 @@
 //! - `antennas`: the two-antenna transponder;
 //! - `text`: what both programs share of their line formats;
 //! - `sift`, `calls`, `roster`, `elm`: what each program prints for a whole input;
+//! - `shift_report`: the same of `tally`, from `sift`'s answer to each line;
 //! - `notices`: which changes of few bits, and of two bursts, leave no remainder;
 //! - `vectors`: published values that the reference itself has to meet.
 //!
@@ -38,6 +39,7 @@
 //! - `fast`, `fast_sift`, `fast_calls`, `speed`: programs written for speed, and the
 //!   measurement against them;
 //! - `speed_roster`: what a call on the roll-call table costs;
+//! - `speed_tally`: what `tally` takes beside `sift`;
 //! - `selftest`: the checks of this program on itself.
 //!
 //! `c/`, a package of its own, links the C library and compares its calls with the
@@ -76,6 +78,7 @@ pub mod selftest;
 pub mod sensor;
 pub mod sensor_kinds;
 pub mod sensor_lines;
+pub mod shift_report;
 pub mod sift;
 pub mod sift_kinds;
 pub mod sift_lines;
@@ -83,6 +86,7 @@ pub mod simulate;
 pub mod solve;
 pub mod speed;
 pub mod speed_roster;
+pub mod speed_tally;
 pub mod svg;
 pub mod tally;
 pub mod text;

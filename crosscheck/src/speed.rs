@@ -12,7 +12,7 @@ use std::process::{Command, Stdio};
 use std::time::Instant;
 
 /// The runs of each program on each file; medians are taken.
-const RUNS: usize = 401;
+pub(crate) const RUNS: usize = 401;
 
 const SEED: u64 = 112;
 
