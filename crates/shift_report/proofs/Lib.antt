@@ -5,5 +5,5 @@ pub mod Counts
 pub mod Pages
 pub mod Answered
 pub mod Printing
-pub mod Stated
 pub mod Instances
+pub mod Laws

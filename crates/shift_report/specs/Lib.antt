@@ -1,5 +1,4 @@
--- What a reader must believe of the shift report: what tally prints, and what is stated of it.
+-- What a reader must believe of the shift report: what tally prints. What is stated of it is in the crate shift_report_meaning.
 pub mod Tally
-pub mod Counting
 -- ---- what only private functions cite
 pub mod Printed

@@ -9,11 +9,10 @@ use lib.ListN.{length, length-map}
 use Rattle.text.specs.Ascii.{ascii}
 use Rattle.reading.specs.Lines.{lines, columns}
 use Rattle.report.specs.Sift.{answerColumns, outputLines}
 use Rattle.shift_report.specs.Tally.{Row, rows, sameText, columnAt, label, one, howMany, names}
-use Rattle.shift_report.specs.Counting.{total, FirstIsTheSum, FirstIsTheLines, countsFor, printedCount, printed, CountsThePrinted, FirstCountsThePrinted}
-use Rattle.shift_report.proofs.Answered.{Kind, kindRow, row-shown}
+use Rattle.shift_report_meaning.specs.Counting.{total, FirstIsTheSum, FirstIsTheLines, countsFor, printedCount, printed, CountsThePrinted, FirstCountsThePrinted}
+use Rattle.shift_report.proofs.Laws.{Kind, kindRow, row-shown, lineText, line-columns, output-lines, no-output-lines, printed-lines}
 use Rattle.shift_report.proofs.Answered.Kind.{isClean, isSole, isSeveral, isDense, isNoFit, isRefused, isMalformed}
-use Rattle.shift_report.proofs.Printing.{lineText, line-columns, output-lines, no-output-lines, printed-lines}
 
 abbrev answered : List ℕ → Row
 answered l = answerColumns (columns l)

@@ -1,0 +1,2 @@
+-- The theorems on the shift report.
+pub mod Stated

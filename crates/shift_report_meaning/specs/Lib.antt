@@ -1,0 +1,2 @@
+-- What is stated of the shift report.
+pub mod Counting
