@@ -38,7 +38,8 @@ enum {
     MODE_S_BROADCAST = 6, /* transponder: address FFFFFF in format 20 or 21 */
     MODE_S_CLEAN = 7,     /* sensor: the message carries the word; the confidence bits were not looked at */
     MODE_S_DENSE = 8,     /* sensor: mode_s_window is the lowest window with more low marks than the limit */
-    MODE_S_NO_FIT = 9,    /* sensor: no change of low-confidence bits of one window makes the message carry the word */
+    MODE_S_NO_FIT = 9,    /* sensor: no change of low-confidence bits of one window makes the message carry the word, with a
+                             first bit that agrees with its length */
     MODE_S_CORRECTED = 10 /* sensor: the message was corrected; it has a window, a count of bits changed and a mark */
 };
 

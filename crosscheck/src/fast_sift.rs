@@ -115,9 +115,10 @@ pub fn dense_window(low: u128, windows: u32, limit: u32) -> Option<u32> {
 /// The lowest fitting window's place and candidate, and whether another change
 /// fits too. From the last window to the first: the candidate of the window
 /// before is this one divided by x modulo G. An odd candidate does not lie in
-/// the window before, so what fits there is another change.
+/// the window before, so what fits there is another change. The first bit, which
+/// has to agree with the length after the change, is the top bit of window 0.
 #[inline]
-pub fn fits(low: u128, windows: u32, syndrome: u32) -> Option<(u32, u32, bool)> {
+pub fn fits(low: u128, windows: u32, syndrome: u32, agrees: bool) -> Option<(u32, u32, bool)> {
     let mut candidate = syndrome;
     let mut found = None;
     let mut changes = 0;
@@ -125,7 +126,8 @@ pub fn fits(low: u128, windows: u32, syndrome: u32) -> Option<(u32, u32, bool)> 
     let mut marks = low;
     for place in 0..windows {
         let odd = candidate & 1;
-        if candidate & !(marks as u32) == 0 {
+        let touched = place + 1 == windows && candidate >> 23 == 1;
+        if candidate & !(marks as u32) == 0 && agrees != touched {
             changes += u32::from(!continued);
             found = Some((place, candidate));
             continued = odd == 0;
@@ -182,7 +184,8 @@ fn put_answer(out: &mut Vec<u8>, request: &Request) {
     if let Some(window) = dense_window(low, windows, request.limit) {
         return put_unchanged(out, b" dense ", Some(window), request);
     }
-    match fits(low, windows, syndrome) {
+    let agrees = (request.message[0] >= 0x80) == (bytes == 14);
+    match fits(low, windows, syndrome, agrees) {
         None => put_unchanged(out, b" nofit ", None, request),
         Some((place, candidate, several)) => {
             out.extend_from_slice(b" corrected ");

@@ -5,6 +5,9 @@
 //! remainder plus those of the inverted bits. So a window is asked which of its
 //! low bits' remainders add up to the syndrome (`solve`). The tests invert the
 //! bits and divide the whole message instead, and come to the same.
+//!
+//! A fit has to leave a first bit that agrees with the length (document 02,
+//! Point 11); one that does not is left out.
 
 use crate::poly::*;
 use crate::rules::{above_24_bits, rows_that_apply, wrong_message_length};
@@ -59,12 +62,14 @@ pub struct Fit {
 }
 
 /// The answer, the message after the call, and all fits of all windows (none
-/// are looked for where the answer is refused, clean or dense).
+/// are looked for where the answer is refused, clean or dense); beside them those
+/// that would fit but for the first bit.
 #[derive(Debug)]
 pub struct Verdict {
     pub answer: Answer,
     pub message: Vec<u8>,
     pub fits: Vec<Fit>,
+    pub left_out: Vec<Fit>,
 }
 
 pub fn sensor_rows(message: &[u8], confidence: &[u8], word: u32, limit: u32) -> Vec<u8> {
@@ -107,28 +112,38 @@ pub fn fit_in_window(low: &[bool], window: usize, syndrome: u32) -> Option<Fit> 
 
 /// The sensor's answer by the rows of document 01, in their order.
 pub fn sense(message: &[u8], confidence: &[u8], word: u32, limit: u32) -> Verdict {
-    let unchanged = |answer| Verdict { answer, message: message.to_vec(), fits: Vec::new() };
+    let unchanged = |answer, left_out| {
+        let (message, fits) = (message.to_vec(), Vec::new());
+        Verdict { answer, message, fits, left_out }
+    };
     if let Some(row) = sensor_rows(message, confidence, word, limit).first() {
-        return unchanged(Answer::Refused(*row));
+        return unchanged(Answer::Refused(*row), Vec::new());
     }
     let received = bits_of_bytes(message);
     let low = bits_of_bytes(confidence);
     let syndrome = word_of_bits(&remainder(&received)) ^ word;
     if syndrome == 0 {
-        return unchanged(Answer::Clean);
+        return unchanged(Answer::Clean, Vec::new());
     }
     let dense = |window: &usize| low_bits(&low, *window).len() > limit as usize;
     if let Some(window) = windows(low.len()).find(dense) {
-        return unchanged(Answer::Dense { window });
+        return unchanged(Answer::Dense { window }, Vec::new());
     }
     let search = |window| fit_in_window(&low, window, syndrome);
-    let fits: Vec<Fit> = windows(low.len()).filter_map(search).collect();
+    let agrees = |fit: &Fit| first_bit_agrees(&invert(&received, &fit.bits));
+    let (fits, left_out): (Vec<Fit>, Vec<Fit>) =
+        windows(low.len()).filter_map(search).partition(agrees);
     if fits.is_empty() {
-        return unchanged(Answer::NoFit);
+        return unchanged(Answer::NoFit, left_out);
     }
     let message = invert(&received, &fits[0].bits);
     assert_eq!(remainder(&message), bits_of_word(word, DEGREE), "the fit makes it carry the word");
-    Verdict { answer: corrected(&fits), message: bytes_of_bits(&message), fits }
+    Verdict { answer: corrected(&fits), message: bytes_of_bits(&message), fits, left_out }
+}
+
+/// The first bit of 56 is a 0, of 112 a 1.
+pub fn first_bit_agrees(message: &[bool]) -> bool {
+    message[0] == (message.len() == 112)
 }
 
 /// The answer of a correction by the first of these fits.
@@ -155,6 +170,11 @@ mod tests {
 
     fn bytes(text: &str) -> Vec<u8> {
         crate::text::hex_bytes(text.as_bytes(), 14).expect("digits")
+    }
+
+    /// A random field with the first bit that the length asks for.
+    fn field(random: &mut Random, n: usize) -> Bits {
+        (0..n - DEGREE).map(|k| if k == 0 { n == 112 } else { random.one_in(2) }).collect()
     }
 
     /// Document 01's values for the sensor, with the message after the call.
@@ -211,7 +231,8 @@ mod tests {
             for subset in 1u32..1 << places.len() {
                 let taken = |k: &usize| subset >> k & 1 == 1;
                 let bits: Vec<usize> = (0..places.len()).filter(taken).map(|k| places[k]).collect();
-                if word_of_bits(&remainder(&invert(message, &bits))) == word {
+                let changed = invert(message, &bits);
+                if word_of_bits(&remainder(&changed)) == word && first_bit_agrees(&changed) {
                     fits.push(Fit { window, bits });
                 }
             }
@@ -226,7 +247,7 @@ mod tests {
         let mut random = Random::new(7);
         for turn in 0..60 {
             let n = if turn % 2 == 0 { 56 } else { 112 };
-            let field: Bits = (0..n - DEGREE).map(|_| random.one_in(2)).collect();
+            let field = field(&mut random, n);
             let word = random.word();
             let window = random.below(n - DEGREE + 1);
             let ones = random.from_to(1, 5);
@@ -250,7 +271,7 @@ mod tests {
         let mut random = Random::new(9);
         for turn in 0..600 {
             let n = if turn % 2 == 0 { 56 } else { 112 };
-            let field: Bits = (0..n - DEGREE).map(|_| random.one_in(2)).collect();
+            let field = field(&mut random, n);
             let word = random.word();
             let sent = with_parity(&field, word);
             let window = random.below(n - DEGREE + 1);

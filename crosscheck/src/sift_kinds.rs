@@ -24,6 +24,7 @@ const REACHED: &str = "corrected with the densest window just at the limit, by t
 const PASSED: &str = "dense by a single mark, by the limit";
 const CHANGES: &str = "fits and changes";
 const OTHERS: &str = "other cases";
+const FIRST_BIT: &str = "the first bit, by length";
 
 const ONE_CHANGE: &str = "sole: one change in several windows";
 const EQUAL: &str = "several: equal patterns in two windows";
@@ -32,6 +33,18 @@ const MANY: &str = "several: three changes or more";
 const MARKED_CLEAN: &str = "clean with more marks than the limit";
 const ZERO: &str = "limit with a leading zero";
 const WORD_ZERO: &str = "corrected for the word 000000";
+
+const WRONG_CLEAN: &str = "wrong, and clean";
+const WRONG_DENSE: &str = "wrong, and dense";
+const WRONG_NO_FIT: &str = "wrong, and no fit though marked bits of a window would carry the word";
+const WRONG_MENDED: &str = "wrong, and mended";
+const NONE_LEFT: &str = "right, and no fit: the only change would invert it";
+const NOW_SOLE: &str = "right, and sole: another change would invert it";
+const WINDOW_MOVED: &str =
+    "right, and corrected in a later window: in an earlier one the change would invert it";
+
+const FIRST_BITS: [&str; 7] =
+    [WRONG_CLEAN, WRONG_DENSE, WRONG_NO_FIT, WRONG_MENDED, NONE_LEFT, NOW_SOLE, WINDOW_MOVED];
 
 fn by_window(first: usize, last_but: usize) -> Vec<String> {
     let windows = |n: usize| (first..=n - DEGREE - last_but).map(move |w| format!("{n}: {w}"));
@@ -69,13 +82,19 @@ pub fn groups(special: &[&'static str]) -> Vec<Group> {
         Group::summed(REFUSED_LIMIT, 25..=99),
         Group::summed(SOLE, by_window(0, 0)),
         Group::summed(SEVERAL, by_window(0, 1)),
-        Group::summed(HIGHEST_FIT, by_window(1, 0)),
+        // two changes of which one is in window 0 and the other in window 1 differ in
+        // the first bit, so one of them is no fit
+        Group::summed(HIGHEST_FIT, by_window(2, 0)),
         Group::summed(ONES, ones),
         Group::summed(DENSE, by_window(0, 0)),
         Group::summed(REACHED, 1..=24),
         Group::summed(PASSED, 0..=23),
         Group::each(CHANGES, [ONE_CHANGE, EQUAL, LATE, MANY]),
         Group::each(MISSED, LENGTHS),
+        Group::each(
+            FIRST_BIT,
+            LENGTHS.into_iter().flat_map(|n| FIRST_BITS.map(|kind| format!("{n}: {kind}"))),
+        ),
         Group::each(OTHERS, others),
         Group::each(MALFORMED, defects().iter().map(|defect| defect.0)),
         Group::each(INPUTS, special),
@@ -119,6 +138,32 @@ pub fn count(tally: &mut Tally, line: &[u8], judged: &Judged, aim: Option<&Aim>)
         Answer::Corrected { .. } => count_corrected(tally, request, verdict),
     }
     count_others(tally, line, request, verdict);
+    count_first_bit(tally, request, verdict);
+}
+
+fn count_first_bit(tally: &mut Tally, request: &Request, verdict: &Verdict) {
+    let n = 8 * request.message.len();
+    let Verdict { answer, fits, left_out, .. } = verdict;
+    if matches!(answer, Answer::Refused(_)) {
+        return;
+    }
+    let right = first_bit_agrees(&bits_of_bytes(&request.message));
+    let mut add = |kind: &str| tally.add(FIRST_BIT, format!("{n}: {kind}"));
+    match answer {
+        Answer::Clean if !right => add(WRONG_CLEAN),
+        Answer::Dense { .. } if !right => add(WRONG_DENSE),
+        Answer::NoFit if !left_out.is_empty() => add(if right { NONE_LEFT } else { WRONG_NO_FIT }),
+        Answer::Corrected { .. } if !right => add(WRONG_MENDED),
+        Answer::Corrected { mark, window, .. } if !left_out.is_empty() => {
+            if *mark == Mark::Sole && left_out.iter().any(|fit| fit.bits != fits[0].bits) {
+                add(NOW_SOLE);
+            }
+            if left_out[0].window < *window {
+                add(WINDOW_MOVED);
+            }
+        }
+        _ => (),
+    }
 }
 
 fn count_refused(tally: &mut Tally, request: &Request, row: u8) {

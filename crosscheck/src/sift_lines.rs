@@ -6,7 +6,9 @@ use crate::defects::*;
 use crate::poly::*;
 use crate::random::Random;
 use crate::rules::with_parity;
-use crate::sensor::{densest, invert, low_bits, remainder_of_bit, windows, HIGHEST_LIMIT};
+use crate::sensor::{
+    densest, first_bit_agrees, invert, low_bits, remainder_of_bit, windows, HIGHEST_LIMIT,
+};
 use crate::solve::eliminate;
 use crate::text::hex;
 use crate::vectors::factors;
@@ -48,10 +50,11 @@ fn noise(random: &mut Random, n: usize, probability: f64) -> Bits {
     (0..n).map(|_| random.chance(probability)).collect()
 }
 
-/// A random message that carries the word. Any first bit: the sensor does not
-/// judge it.
+/// A random message that carries the word. Now and then the first bit is the
+/// wrong one for the length: the sensor does not refuse it.
 fn sealed(random: &mut Random, n: usize, word: u32) -> Bits {
-    let field = noise(random, n - DEGREE, 0.5);
+    let mut field = noise(random, n - DEGREE, 0.5);
+    field[0] = (n == 112) != random.one_in(8);
     with_parity(&field, word)
 }
 
@@ -156,6 +159,33 @@ fn two_changes(random: &mut Random, n: usize, first: usize, second: usize) -> Ma
     }
     let limit = limit_about(random, &low);
     Made::plain(line(&invert(&sent, &changed), &low, word, limit))
+}
+
+/// A reply with the right first bit, hit in a later window, with the marks also on
+/// a change of window 0 that would invert the first bit. Where the mark of a bit
+/// that was hit is missing, that change is all there is.
+fn first_bit(random: &mut Random, n: usize, missing: bool) -> Made {
+    let word = expected_word(random);
+    let mut sent = sealed(random, n, word);
+    while !first_bit_agrees(&sent) {
+        sent = sealed(random, n, word);
+    }
+    let (changed, other) = loop {
+        let window = random.from_to(1, n - DEGREE);
+        let changed = burst(random, window);
+        let other = change_in(n, 0, remainder_of_change(n, &changed));
+        if other.contains(&1) {
+            break (changed, other);
+        }
+    };
+    let mut low = invert(&vec![false; n], &changed);
+    if missing {
+        low[changed[0] - 1] = false;
+    }
+    for bit in other {
+        low[bit - 1] = true;
+    }
+    Made::plain(line(&invert(&sent, &changed), &low, word, HIGHEST_LIMIT as usize))
 }
 
 /// A 24-bit pattern and a distance, such that the pattern has one remainder in
@@ -319,6 +349,8 @@ pub fn one_of_each(random: &mut Random, n: usize) -> Vec<Made> {
         missed(random, n, later),
         unsealed(random, n),
         broad(random, n),
+        first_bit(random, n, false),
+        first_bit(random, n, true),
     ]
 }
 
@@ -340,6 +372,8 @@ pub fn round(random: &mut Random) -> Vec<Made> {
             made.push(clean(random, n));
             made.push(broad(random, n));
             made.push(equal_patterns(random, n));
+            made.push(first_bit(random, n, false));
+            made.push(first_bit(random, n, true));
             let window = random.below(last + 1);
             made.push(missed(random, n, window));
         }

@@ -128,13 +128,17 @@ impl Solver {
             ^ high[syndrome as usize >> 16]
     }
 
-    /// All changes that fit, the lowest window's first, each once.
-    fn changes(&self, syndrome: u32, low: u128) -> Vec<u128> {
+    /// All changes that fit, the lowest window's first, each once. The reply was
+    /// sealed, so its first bit agreed with its length: a change has to restore it.
+    fn changes(&self, hit: &Hit, syndrome: u32) -> Vec<u128> {
+        let first_bit = self.windows.len() + DEGREE - 2;
         let mut changes = Vec::new();
         for place in (0..self.windows.len()).rev() {
             let pattern = self.pattern(place, syndrome);
             let change = u128::from(pattern) << place;
-            if u128::from(pattern) & !(low >> place) == 0 && changes.last() != Some(&change) {
+            let marked = u128::from(pattern) & !(hit.low >> place) == 0;
+            let restored = (hit.changed ^ change) >> first_bit & 1 == 0;
+            if marked && restored && changes.last() != Some(&change) {
                 changes.push(change);
             }
         }
@@ -148,7 +152,7 @@ impl Solver {
         if syndrome == 0 {
             return (Outcome::Clean, 0);
         }
-        let changes = self.changes(syndrome, hit.low);
+        let changes = self.changes(hit, syndrome);
         let wrong = changes.first().map_or(0, |applied| applied ^ hit.changed);
         let outcome = match (changes.as_slice(), wrong) {
             ([], _) => Outcome::NoFit,
@@ -287,7 +291,8 @@ mod tests {
             for _ in 0..1500 {
                 let hit = hit(&mut random, n, &HARSH);
                 let word = random.word();
-                let field: Bits = (0..n - DEGREE).map(|_| random.one_in(2)).collect();
+                let mut field: Bits = (0..n - DEGREE).map(|_| random.one_in(2)).collect();
+                field[0] = n == 112;
                 let sent = with_parity(&field, word);
                 assert_eq!(sent[n - DEGREE..].len(), bits_of_word(word, DEGREE).len());
                 let received = bytes_of_bits(&add(&sent, &bits(hit.changed, n)));

@@ -1,12 +1,12 @@
 -- Demand 3, sentence by sentence: each follows from `ours-is-right` and `only-one-is-right`.
 use mathlib.Core.Path.{_≡_, refl, sym, ap, _∙_, subst}
-use mathlib.Core.Logic.{inl, inr}
+use mathlib.Core.Logic.{_⊎_, inl, inr}
 use mathlib.Core.List.{List}
 use Prim.Native.Nat.{ℕ, _-_, _*_, _^_, _<_, _≤_}
 use native.Mathlib.Omega.{arith}
 use lib.Bits.{bitXor}
 use lib.Count.{ones}
-use lib.ListN.{length}
+use lib.ListN.{length, getD}
 use Rattle.division.specs.Division.{remainder, parity}
 use mathlib.Core.Bool.{true}
 use Rattle.message.specs.Message.{number, Bytes, field, isMessageLength, firstBitAgrees}
@@ -14,9 +14,9 @@ use Rattle.outcome.specs.Outcomes.{Outcome, done}
 use Rattle.outcome.proofs.Laws.{refusal-is-no-answer, same-answer}
 use Rattle.outcome.specs.Outcomes.Outcome.{refusal, answer}
 use Rattle.division.proofs.Laws.{xor-cancel-r}
-use Rattle.message.proofs.Laws.{message-length-ge, in-window-lt}
+use Rattle.message.proofs.Laws.{message-length, message-length-ge, in-window-lt, same-first-bit}
 use Rattle.encoder.specs.Seals.{withParity, sealOutcome, replyAfter}
-use Rattle.encoder.proofs.Laws.{was-accepted, reply-after, reply-is, reply-lt, sealed-length, sealed-bytes}
+use Rattle.encoder.proofs.Laws.{was-accepted, reply-after, reply-is, reply-lt, sealed-length, sealed-bytes, sealed-first}
 use Rattle.message.specs.Bits.{lastWindow, inverted}
 use Rattle.division.specs.Division.{Carries}
 use Rattle.sensor.specs.Changes.{OnLow, Fit}
@@ -25,7 +25,7 @@ use Rattle.message.proofs.Laws.{inverted-number, inverted-bytes, inverted-lengt
 use Rattle.sensor.proofs.Laws.{Admitted, unrefused, after-refused, fit-is, sizes}
 use Rattle.conformance.specs.Sealing.{Message, ReplyCarries}
 use Rattle.conformance.specs.Bursts.{Burst}
-use Rattle.conformance.specs.Correcting.{Judged, IsDense, LowestDense, NoneDense, LowestFit, OnlyChange, AnotherChange, Right, OursIsRight, OnlyOneIsRight, SaysClean, SaysDense, SaysNoFit, Correction, Corrects, OthersLeave, HitReply}
+use Rattle.conformance.specs.Correcting.{Judged, IsDense, LowestDense, NoneDense, LowestFit, OnlyChange, AnotherChange, Right, OursIsRight, OnlyOneIsRight, SaysClean, SaysDense, SaysNoFit, Correction, Corrects, CorrectedAgrees, OthersLeave, HitReply}
 use Rattle.conformance.specs.Correcting.Right.{clean, dense, noFit, sole, several}
 use Rattle.conformance.proofs.Right.{ours-is-right, only-one-is-right}
 use Rattle.conformance.proofs.Sealing.{reply-carries}
@@ -150,6 +150,19 @@ corrects m c w l call n k v d f = by (right m c w l call)
           either = inr refl;
         }
 
+-- ---- the first bit of a corrected message
+
+pub corrected-agrees : CorrectedAgrees
+unfolding CorrectedAgrees LowestFit Fit
+corrected-agrees m c w l call v n k o = by (right m c w l call)
+  where
+    by : Right m c w l (sensorOutcome m c w l) (sensorAfter m c w l) → firstBitAgrees (sensorAfter m c w l) ≡ true
+    by (clean h e i) = absurd (omega (arith, same-answer (sym o ∙ e)))
+    by (dense q u h e i) = absurd (omega (arith, same-answer (sym o ∙ e)))
+    by (noFit q h g e i) = absurd (omega (arith, same-answer (sym o ∙ e)))
+    by (sole q h u x g r e i) = ap firstBitAgrees i ∙ g .0 .3
+    by (several q h u x g r e i) = ap firstBitAgrees i ∙ g .0 .3
+
 -- ---- in every other answer no byte changes
 
 pub others-leave : OthersLeave
@@ -213,6 +226,22 @@ module _ (m c : List ℕ) (w l v d : ℕ) (hm : Bytes m) (e : sealOutcome m w �
   not-clean : Carries (number hit) w → ⊥
   not-clean h = hit-differs sent v d sent-bytes sent-large b (h ∙ sym sent-carries)
 
+  restored : inverted hit d ≡ sent
+  restored =
+      sym (inverted-by-number sent hit d sent-bytes (inverted-bytes sent d) (sym hit-length) (subst (λ (n : ℕ). d < 2 ^ (8 * n)) (sym hit-length) small)
+      (sym (ap (λ (n : ℕ). bitXor n d) hit-number ∙ xor-cancel-r (number sent) d)))
+
+  -- a seal leaves the first bit, which agreed
+  sent-agrees : firstBitAgrees sent ≡ true
+  sent-agrees =
+      same-first-bit sent m
+      (ap (λ (t : List ℕ). getD t 0 0) sent-is ∙ sealed-first m (bitXor (parity (number (field m))) w) (four (message-length (length m) (ok-seal .0)))) sent-length
+      ∙ ok-seal .2
+    where
+      four : (length m ≡ 7) ⊎ (length m ≡ 14) → 4 ≤ length m
+      four (inl e) = omega arith
+      four (inr e) = omega arith
+
   -- the burst itself is a fit
   pub undone : OnLow c d → Fit hit c w v d
   unfolding Fit Burst
@@ -227,12 +256,8 @@ module _ (m c : List ℕ) (w l v d : ℕ) (hm : Bytes m) (e : sealOutcome m w �
         ),
         low,
         ap (λ (n : ℕ). remainder (bitXor n d)) hit-number ∙ ap remainder (xor-cancel-r (number sent) d) ∙ sent-carries,
+        ap firstBitAgrees restored ∙ sent-agrees,
       )
-
-  restored : inverted hit d ≡ sent
-  restored =
-      sym (inverted-by-number sent hit d sent-bytes (inverted-bytes sent d) (sym hit-length) (subst (λ (n : ℕ). d < 2 ^ (8 * n)) (sym hit-length) small)
-      (sym (ap (λ (n : ℕ). bitXor n d) hit-number ∙ xor-cancel-r (number sent) d)))
 
 pub hit-reply : HitReply
 unfolding HitReply SaysClean OnlyChange LowestFit NoneDense

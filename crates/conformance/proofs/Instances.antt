@@ -269,7 +269,7 @@ unfolding hit two-changes long-hit number polynomial downwards generator generat
 others-carry-not = ((λ e. omega arith), (λ e. omega arith), λ e. omega arith)
 
 -- with a limit of 24 no window is dense
-none-dense : (c : List ℕ) → NoneDense c 24
+pub none-dense : (c : List ℕ) → NoneDense c 24
 unfolding NoneDense IsDense lowMarks marksAt
 none-dense c v d = omega (arith, ones-le 24 (number c / 2 ^ place c v % 2 ^ 24) (mod-lt (number c / 2 ^ place c v) (pow-pos 24)), d .1)
 
@@ -284,11 +284,11 @@ no-change m w v d f =
 
 -- the bit that was hit, in window 0
 one-change : Fit hit marks 0x123456 0 (2 ^ 39) × Fit long-hit long-marks 0x4953D4 0 (2 ^ 95)
-unfolding Fit OnLow hit marks long-hit long-marks number polynomial downwards generator generatorPowers reduce divide remainder
-one-change = (((lit≤ tt, 128, lit< tt, lit< tt, refl), refl, refl), ((lit≤ tt, 128, lit< tt, lit< tt, refl), refl, refl))
+unfolding Fit OnLow hit marks long-hit long-marks number polynomial downwards generator generatorPowers reduce divide remainder inverted numberBytes firstBit firstBitAgrees
+one-change = (((lit≤ tt, 128, lit< tt, lit< tt, refl), refl, refl, refl), ((lit≤ tt, 128, lit< tt, lit< tt, refl), refl, refl, refl))
 
 -- where one bit alone is marked, no other change is possible
-change-pos : (m c : List ℕ) (w v d : ℕ) → Fit m c w v d → 0 < d
+pub change-pos : (m c : List ℕ) (w v d : ℕ) → Fit m c w v d → 0 < d
 unfolding Fit
 change-pos m c w v d f = positive d (λ z. lt-irrefl 0 (subst (λ (p : ℕ). 0 < p) (none z) (f .0 .2)))
   where
@@ -312,12 +312,12 @@ only-change = (
 
 -- bit 32, in window 8, and FFF409 in the last window; above window 8 no bit is marked
 lower-change : Fit two-changes two-marks 0x000000 8 (2 ^ 24)
-unfolding Fit OnLow two-changes two-marks number polynomial downwards generator generatorPowers reduce divide remainder
-lower-change = ((lit≤ tt, 1, lit< tt, lit< tt, refl), refl, refl)
+unfolding Fit OnLow two-changes two-marks number polynomial downwards generator generatorPowers reduce divide remainder inverted numberBytes firstBit firstBitAgrees
+lower-change = ((lit≤ tt, 1, lit< tt, lit< tt, refl), refl, refl, refl)
 
 another-change : Fit two-changes two-marks 0x000000 32 0xFFF409
-unfolding Fit OnLow two-changes two-marks number polynomial downwards generator generatorPowers reduce divide remainder
-another-change = ((lit≤ tt, 0xFFF409, lit< tt, lit< tt, refl), refl, refl)
+unfolding Fit OnLow two-changes two-marks number polynomial downwards generator generatorPowers reduce divide remainder inverted numberBytes firstBit firstBitAgrees
+another-change = ((lit≤ tt, 0xFFF409, lit< tt, lit< tt, refl), refl, refl, refl)
 
 no-lower-change : (u e : ℕ) → u < 8 → Fit two-changes two-marks 0x000000 u e → ⊥
 unfolding Fit OnLow two-changes two-marks number

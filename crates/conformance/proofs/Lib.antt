@@ -16,3 +16,4 @@ pub mod AltitudeInstances
 pub mod NoticingInstances
 pub mod PackingInstances
 pub mod UploadInstances
+pub mod FirstBitInstances

@@ -49,7 +49,7 @@ module _ (m c : List ℕ) (w l : ℕ) (ok : Admitted (length m) (length c) w l) 
       omega (arith, not-dense c l v (highest-empty (denseAt c l) (suc (lastWindow c)) h (place c v) (omega arith)), d .1)
 
   -- a fit passes the test of its place
-  fit-place : (v d : ℕ) → Fit m c w v d → (d ≡ changeAt s (place m v)) × (fitsAt (passes c) s (place m v) ≡ true)
+  fit-place : (v d : ℕ) → Fit m c w v d → (d ≡ changeAt s (place m v)) × (fitsAt (passes m c) s (place m v) ≡ true)
   unfolding s
   fit-place v d f = fit-is m c w (ok .word-ok) v d f
 
@@ -57,13 +57,13 @@ module _ (m c : List ℕ) (w l : ℕ) (ok : Admitted (length m) (length c) w l) 
   unfolding Fit
   fit-within v d f = f .0 .0
 
-  no-fit : highest (fitsAt (passes c) s) (suc (lastWindow c)) ≡ nowhere → (v d : ℕ) → Fit m c w v d → ⊥
+  no-fit : highest (fitsAt (passes m c) s) (suc (lastWindow c)) ≡ nowhere → (v d : ℕ) → Fit m c w v d → ⊥
   no-fit h v d f =
-      never (fit-place v d f .1) (highest-empty (fitsAt (passes c) s) (suc (lastWindow c)) h (place m v) (omega (arith, lasts)))
+      never (fit-place v d f .1) (highest-empty (fitsAt (passes m c) s) (suc (lastWindow c)) h (place m v) (omega (arith, lasts)))
 
-  module _ (e : ℕ) (pos : 0 < s) (h : highest (fitsAt (passes c) s) (suc (lastWindow c)) ≡ at e) where
-    found : (e < suc (lastWindow c)) × (fitsAt (passes c) s e ≡ true) × ((i : ℕ) → e < i → i < suc (lastWindow c) → fitsAt (passes c) s i ≡ false)
-    found = highest-found (fitsAt (passes c) s) (suc (lastWindow c)) e h
+  module _ (e : ℕ) (pos : 0 < s) (h : highest (fitsAt (passes m c) s) (suc (lastWindow c)) ≡ at e) where
+    found : (e < suc (lastWindow c)) × (fitsAt (passes m c) s e ≡ true) × ((i : ℕ) → e < i → i < suc (lastWindow c) → fitsAt (passes m c) s i ≡ false)
+    found = highest-found (fitsAt (passes m c) s) (suc (lastWindow c)) e h
 
     lowest-fit : LowestFit m c w (lastWindow m - e) (changeAt s e)
     unfolding LowestFit s
@@ -73,17 +73,17 @@ module _ (m c : List ℕ) (w l : ℕ) (ok : Admitted (length m) (length c) w l) 
           never (fit-place u d f .1) (found .2 (place m u) (omega (arith, lasts, found .0)) (omega (arith, lasts))),
     )
 
-    only-change : highest (differsAt (passes c) s e) (suc (lastWindow c)) ≡ nowhere → OnlyChange m c w (changeAt s e)
+    only-change : highest (differsAt (passes m c) s e) (suc (lastWindow c)) ≡ nowhere → OnlyChange m c w (changeAt s e)
     unfolding OnlyChange
     only-change o u d f =
         let p = fit-place u d f in
-        p .0 ∙ same-is (passes c) s e (place m u) (highest-empty (differsAt (passes c) s e) (suc (lastWindow c)) o (place m u) (omega (arith, lasts))) (p .1)
+        p .0 ∙ same-is (passes m c) s e (place m u) (highest-empty (differsAt (passes m c) s e) (suc (lastWindow c)) o (place m u) (omega (arith, lasts))) (p .1)
 
-    another-change : (i : ℕ) → highest (differsAt (passes c) s e) (suc (lastWindow c)) ≡ at i → AnotherChange m c w (changeAt s e)
+    another-change : (i : ℕ) → highest (differsAt (passes m c) s e) (suc (lastWindow c)) ≡ at i → AnotherChange m c w (changeAt s e)
     unfolding AnotherChange s
     another-change i o =
-        let f = highest-found (differsAt (passes c) s e) (suc (lastWindow c)) i o in
-        let d = differs-is (passes c) s e i (f .1) in (
+        let f = highest-found (differsAt (passes m c) s e) (suc (lastWindow c)) i o in
+        let d = differs-is (passes m c) s e i (f .1) in (
           lastWindow m - i,
           changeAt s i,
           is-fit m c w (ok .word-ok) i pos (omega (arith, lasts, f .0)) (d .0),
@@ -103,32 +103,32 @@ module _ (m c : List ℕ) (w l : ℕ) (ok : Admitted (length m) (length c) w l) 
   count : (e k : ℕ) → correctedAnswer (lastWindow m - e) (ones (candidate s e)) k ≡ correctedAnswer (lastWindow m - e) (ones (changeAt s e)) k
   count e k = ap (λ (n : ℕ). correctedAnswer (lastWindow m - e) n k) (ones-change s e)
 
-  module _ (hit : Carries (number m) w → ⊥) (pos : 0 < s) (row : hitDecision (passes c) c s l ≡ decisionOf m c w l) where
-    by-other : (e : ℕ) → highest (denseAt c l) (suc (lastWindow c)) ≡ nowhere → highest (fitsAt (passes c) s) (suc (lastWindow c)) ≡ at e
-        → (o : Found) → highest (differsAt (passes c) s e) (suc (lastWindow c)) ≡ o → Ours
+  module _ (hit : Carries (number m) w → ⊥) (pos : 0 < s) (row : hitDecision (passes m c) c s l ≡ decisionOf m c w l) where
+    by-other : (e : ℕ) → highest (denseAt c l) (suc (lastWindow c)) ≡ nowhere → highest (fitsAt (passes m c) s) (suc (lastWindow c)) ≡ at e
+        → (o : Found) → highest (differsAt (passes m c) s e) (suc (lastWindow c)) ≡ o → Ours
     unfolding Ours
     by-other e n h nowhere d =
-        let r = fits-at (passes c) c s e nowhere h d ∙ decides-sparse (passes c) c s l (sym n) ∙ row in
+        let r = fits-at (passes m c) c s e nowhere h d ∙ decides-sparse (passes m c) c s l (sym n) ∙ row in
         sole hit (none-dense n) (lastWindow m - e) (changeAt s e) (lowest-fit e pos h) (only-change e pos h d)
         (answered (corrected e nowhere) r ∙ count e soleMark) (leaves (corrected e nowhere) r)
     by-other e n h (at i) d =
-        let r = fits-at (passes c) c s e (at i) h d ∙ decides-sparse (passes c) c s l (sym n) ∙ row in
+        let r = fits-at (passes m c) c s e (at i) h d ∙ decides-sparse (passes m c) c s l (sym n) ∙ row in
         several hit (none-dense n) (lastWindow m - e) (changeAt s e) (lowest-fit e pos h) (another-change e pos h i d)
         (answered (corrected e (at i)) r ∙ count e severalMark) (leaves (corrected e (at i)) r)
 
-    by-fit : highest (denseAt c l) (suc (lastWindow c)) ≡ nowhere → (f : Found) → highest (fitsAt (passes c) s) (suc (lastWindow c)) ≡ f → Ours
+    by-fit : highest (denseAt c l) (suc (lastWindow c)) ≡ nowhere → (f : Found) → highest (fitsAt (passes m c) s) (suc (lastWindow c)) ≡ f → Ours
     unfolding Ours
     by-fit n nowhere h =
-        let r = fits-none (passes c) c s h ∙ decides-sparse (passes c) c s l (sym n) ∙ row in
+        let r = fits-none (passes m c) c s h ∙ decides-sparse (passes m c) c s l (sym n) ∙ row in
         noFit hit (none-dense n) (no-fit h) (answered _ r) (leaves _ r)
-    by-fit n (at e) h = by-other e n h (highest (differsAt (passes c) s e) (suc (lastWindow c))) refl
+    by-fit n (at e) h = by-other e n h (highest (differsAt (passes m c) s e) (suc (lastWindow c))) refl
 
     by-dense : (f : Found) → highest (denseAt c l) (suc (lastWindow c)) ≡ f → Ours
     unfolding Ours
     by-dense (at e) h =
-        let r = decides-dense (passes c) c s l e (sym h) ∙ row in
+        let r = decides-dense (passes m c) c s l e (sym h) ∙ row in
         dense hit (lastWindow m - e) (lowest-dense e h) (answered _ r) (leaves _ r)
-    by-dense nowhere h = by-fit h (highest (fitsAt (passes c) s) (suc (lastWindow c))) refl
+    by-dense nowhere h = by-fit h (highest (fitsAt (passes m c) s) (suc (lastWindow c))) refl
 
   by-syndrome : (n : ℕ) → s ≡ n → Ours
   unfolding Ours s

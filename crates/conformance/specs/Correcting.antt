@@ -3,9 +3,10 @@
 use Prim.Native.Nat.{ℕ, _<_, _≤_}
 use mathlib.Core.Path.{_≡_}
 use mathlib.Core.Logic.{_↔_, _⊎_}
+use mathlib.Core.Bool.{true}
 use mathlib.Core.List.{List}
 use lib.Count.{ones}
-use Rattle.message.specs.Message.{number, Bytes}
+use Rattle.message.specs.Message.{number, Bytes, firstBitAgrees}
 use Rattle.outcome.specs.Outcomes.{Outcome, done, Unrefused}
 use Rattle.encoder.specs.Seals.{sealOutcome, replyAfter}
 use Rattle.message.specs.Bits.{lastWindow, inverted}
@@ -98,6 +99,12 @@ unfoldable pub Corrects : Type 0
 Corrects =
     (m c : List ℕ) (w l : ℕ) → Judged m c w l → (Carries (number m) w → ⊥) → NoneDense c l
     → (v d : ℕ) → Fit m c w v d → Correction m c w l
+
+-- 'a fit must also leave the corrected message with a first bit that agrees with its length' (document 02, Point 11): so every
+-- corrected message has one.
+unfoldable pub CorrectedAgrees : Type 0
+CorrectedAgrees =
+    (m c : List ℕ) (w l : ℕ) → Judged m c w l → (v n k : ℕ) → sensorOutcome m c w l ≡ correctedAnswer v n k → firstBitAgrees (sensorAfter m c w l) ≡ true
 
 -- In every other answer no byte changes, refusals among them.
 unfoldable pub OthersLeave : Type 0

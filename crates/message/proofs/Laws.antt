@@ -3,3 +3,4 @@ pub use Rattle.message.proofs.Bytes.{number-nil, number-cons, number-on
 pub use Rattle.message.proofs.Lengths.{word-lt, lt-word, message-length, message-length-ge, field-length-le, field-is-field}
 pub use Rattle.message.proofs.Inverting.{bytes-of-number, inverted-length, inverted-bytes, inverted-number, inverted-by-number, inverted-part, in-window-lt}
 pub use Rattle.message.proofs.Reading.{bit-is, same-format, first-bit-by, same-first-bit, long-by-first-bit}
+pub use Rattle.message.proofs.FirstBit.{first-bit-kept, first-bit-inverted}

@@ -3,4 +3,5 @@ pub mod Bytes
 pub mod Lengths
 pub mod Inverting
 pub mod Reading
+pub mod FirstBit
 pub mod Laws

@@ -91,11 +91,11 @@ decides-sparse φ c s l h = ap (λ (f : Found). denseDecision f (fitsDecision φ
 
 pub decides-clean : (m c : List ℕ) (w l : ℕ) → syndrome m w ≡ 0 → clean ≡ decisionOf m c w l
 unfolding decisionOf
-decides-clean m c w l e = sym (ap (λ (b : Bool). cleanDecision b (hitDecision (passes c) c (syndrome m w) l)) (eq-eqb (syndrome m w) 0 e))
+decides-clean m c w l e = sym (ap (λ (b : Bool). cleanDecision b (hitDecision (passes m c) c (syndrome m w) l)) (eq-eqb (syndrome m w) 0 e))
 
-pub decides-hit : (m c : List ℕ) (w l : ℕ) → (syndrome m w ≡ 0 → ⊥) → hitDecision (passes c) c (syndrome m w) l ≡ decisionOf m c w l
+pub decides-hit : (m c : List ℕ) (w l : ℕ) → (syndrome m w ≡ 0 → ⊥) → hitDecision (passes m c) c (syndrome m w) l ≡ decisionOf m c w l
 unfolding decisionOf
-decides-hit m c w l e = sym (ap (λ (b : Bool). cleanDecision b (hitDecision (passes c) c (syndrome m w) l)) (ne-eqb (syndrome m w) 0 e))
+decides-hit m c w l e = sym (ap (λ (b : Bool). cleanDecision b (hitDecision (passes m c) c (syndrome m w) l)) (ne-eqb (syndrome m w) 0 e))
 
 -- ---- the answer and the message of a correction
 

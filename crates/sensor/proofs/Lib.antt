@@ -1,6 +1,7 @@
 -- The laws of the sensor.
 pub mod Marks
 pub mod Bits
+pub mod FirstBit
 pub mod Checking
 pub mod Fits
 pub mod Deciding

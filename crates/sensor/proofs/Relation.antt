@@ -13,10 +13,10 @@ use lib.Dec.{eqb}
 use lib.Pow.{pow-pos, split, shl-shr}
 use borrow.Author.Tests.{eqb-true, eq-eqb, ltb-true, ltb-false}
 use Rattle.division.specs.Division.{remainder}
-use Rattle.message.specs.Message.{number}
+use Rattle.message.specs.Message.{number, firstBitAgrees}
 use Rattle.division.proofs.Laws.{xor-cancel, xor-move, remainder-xor, window-unique}
-use Rattle.message.specs.Bits.{lastWindow, place}
-use Rattle.outcome.proofs.Laws.{never}
+use Rattle.message.specs.Bits.{lastWindow, place, inverted}
+use Rattle.outcome.proofs.Laws.{never, both}
 use Rattle.division.specs.Division.{Carries}
 use Rattle.sensor.specs.Changes.{OnLow, Fit, marksAt, lowMarks}
 use Rattle.sensor.specs.Verdicts.{firstOf, highest, syndrome, candidate, changeAt, denseAt, passes, fitsAt, differsAt}
@@ -75,7 +75,7 @@ module _ (m c : List ℕ) (w : ℕ) (hw : w < 2 ^ 24) where
   s : ℕ
   s = syndrome m w
 
-  pub fit-is : (v d : ℕ) → Fit m c w v d → (d ≡ changeAt (syndrome m w) (place m v)) × (fitsAt (passes c) (syndrome m w) (place m v) ≡ true)
+  pub fit-is : (v d : ℕ) → Fit m c w v d → (d ≡ changeAt (syndrome m w) (place m v)) × (fitsAt (passes m c) (syndrome m w) (place m v) ≡ true)
   unfolding Fit changeAt passes fitsAt s
   fit-is v d f =
       let p : ℕ = f .0 .1 in
@@ -84,14 +84,17 @@ module _ (m c : List ℕ) (w : ℕ) (hw : w < 2 ^ 24) where
       window-unique p (candidate s e) e (f .0 .3) (candidate-lt s e (syndrome-lt m w hw))
       (ap remainder (sym (f .0 .4)) ∙ carries→ m w d (f .2) ∙ sym (candidate-law s e (syndrome-lt m w hw))) in (
         f .0 .4 ∙ ap (λ (n : ℕ). n * 2 ^ e) same,
-        eq-eqb (bitAnd (candidate s e) (marksAt c e)) (candidate s e)
-            (subst (λ (n : ℕ). bitAnd n (marksAt c e) ≡ n) same (on-low→ c p e (f .0 .3) (subst (OnLow c) (f .0 .4) (f .1)))),
+        ap₂ (λ (t u : Bool). t && u)
+            (eq-eqb (bitAnd (candidate s e) (marksAt c e)) (candidate s e)
+            (subst (λ (n : ℕ). bitAnd n (marksAt c e) ≡ n) same (on-low→ c p e (f .0 .3) (subst (OnLow c) (f .0 .4) (f .1)))))
+            (ap (λ (n : ℕ). firstBitAgrees (inverted m n)) (sym (f .0 .4 ∙ ap (λ (n : ℕ). n * 2 ^ e) same)) ∙ f .3),
       )
 
-  pub is-fit : (e : ℕ) → 0 < syndrome m w → e ≤ lastWindow m → fitsAt (passes c) (syndrome m w) e ≡ true → Fit m c w (lastWindow m - e) (changeAt (syndrome m w) e)
+  pub is-fit : (e : ℕ) → 0 < syndrome m w → e ≤ lastWindow m → fitsAt (passes m c) (syndrome m w) e ≡ true → Fit m c w (lastWindow m - e) (changeAt (syndrome m w) e)
   unfolding Fit changeAt passes fitsAt s
   is-fit e hs he t =
       let p : ℕ = candidate s e in
+      let tests = both (eqb (bitAnd p (marksAt c e)) p) (firstBitAgrees (inverted m (p * 2 ^ e))) t in
       let back : place m (lastWindow m - e) ≡ e = omega arith in (
         (
           omega arith,
@@ -100,8 +103,9 @@ module _ (m c : List ℕ) (w : ℕ) (hw : w < 2 ^ 24) where
           candidate-lt s e (syndrome-lt m w hw),
           ap (λ (k : ℕ). p * 2 ^ k) (sym back),
         ),
-        on-low← c p e (candidate-lt s e (syndrome-lt m w hw)) (eqb-true (bitAnd p (marksAt c e)) p t),
+        on-low← c p e (candidate-lt s e (syndrome-lt m w hw)) (eqb-true (bitAnd p (marksAt c e)) p (tests .0)),
         carries← m w (p * 2 ^ e) (candidate-law s e (syndrome-lt m w hw)),
+        tests .1,
       )
 
 -- ---- density

@@ -15,7 +15,7 @@ use Rattle.outcome.specs.Outcomes.{Outcome, unless, left}
 use Rattle.outcome.specs.Outcomes.Outcome.{refusal, answer}
 use Rattle.outcome.specs.Refusals.{wrongLength, wrongConfidenceLength, wordTooLarge, limitTooLarge}
 use Rattle.division.specs.Division.{remainder, backward}
-use Rattle.message.specs.Message.{number, isMessageLength, isWord}
+use Rattle.message.specs.Message.{number, firstBitAgrees, isMessageLength, isWord}
 use Rattle.message.specs.Bits.{lastWindow, inverted}
 use Rattle.sensor.specs.Changes.{marksAt}
 use Rattle.sensor.specs.declared.Mark.{Mark}
@@ -88,9 +88,9 @@ changeAt s e = candidate s e * 2 ^ e
 unfoldable pub denseAt : List ℕ → ℕ → ℕ → Bool
 denseAt c l e = ltb l (ones (marksAt c e))
 
--- The test of a pattern at a place: it has ones on low marks only.
-unfoldable pub passes : List ℕ → ℕ → ℕ → Bool
-passes c e p = eqb (bitAnd p (marksAt c e)) p
+-- The test of a pattern at a place: it has ones on low marks only, and the first bit that it leaves agrees with the length.
+unfoldable pub passes : List ℕ → List ℕ → ℕ → ℕ → Bool
+passes m c e p = eqb (bitAnd p (marksAt c e)) p && firstBitAgrees (inverted m (p * 2 ^ e))
 
 -- Of any test φ: whether the candidate of a place passes it, and whether it does and inverts other message bits than the
 -- candidate of another place.
@@ -132,7 +132,7 @@ hitDecision φ c s l = denseDecision (highest (denseAt c l) (suc (lastWindow c))
 
 -- Before that, whether the message is clean.
 unfoldable pub decisionOf : List ℕ → List ℕ → ℕ → ℕ → Decision
-decisionOf m c w l = cleanDecision (eqb (syndrome m w) 0) (hitDecision (passes c) c (syndrome m w) l)
+decisionOf m c w l = cleanDecision (eqb (syndrome m w) 0) (hitDecision (passes m c) c (syndrome m w) l)
 
 -- ---- what a decision answers, and the message after it
 

@@ -106,8 +106,8 @@ fn judge_hit(m: &mut [u8], c: &[u8], s: u32, limit: u32) -> Verdict
     requires { ⌜ isMessageLength (length (now m)) ≡ true ⌝ }
     requires { ⌜ length (now c) ≡ length (now m) ⌝ }
     requires { ⌜ (0 < s) × (s < 2 ^ 24) ⌝ }
-    ensures { λ r. ⌜ said r ≡ decisionAnswer (now (m .entry)) s (hitDecision (passes (now (c .entry))) (now (c .entry)) s limit) ⌝ }
-    ensures { λ r. ⌜ now (m .exit) ≡ decisionMessage (now (m .entry)) s (hitDecision (passes (now (c .entry))) (now (c .entry)) s limit) ⌝ }
+    ensures { λ r. ⌜ said r ≡ decisionAnswer (now (m .entry)) s (hitDecision (passes (now (m .entry)) (now (c .entry))) (now (c .entry)) s limit) ⌝ }
+    ensures { λ r. ⌜ now (m .exit) ≡ decisionMessage (now (m .entry)) s (hitDecision (passes (now (m .entry)) (now (c .entry))) (now (c .entry)) s limit) ⌝ }
 {
     let dense = highest_dense(c, limit);
     match dense {
@@ -121,10 +121,10 @@ fn mend(m: &mut [u8], c: &[u8], s: u32) -> Verdict
     requires { ⌜ isMessageLength (length (now m)) ≡ true ⌝ }
     requires { ⌜ length (now c) ≡ length (now m) ⌝ }
     requires { ⌜ (0 < s) × (s < 2 ^ 24) ⌝ }
-    ensures { λ r. ⌜ said r ≡ decisionAnswer (now (m .entry)) s (fitsDecision (passes (now (c .entry))) (now (c .entry)) s) ⌝ }
-    ensures { λ r. ⌜ now (m .exit) ≡ decisionMessage (now (m .entry)) s (fitsDecision (passes (now (c .entry))) (now (c .entry)) s) ⌝ }
+    ensures { λ r. ⌜ said r ≡ decisionAnswer (now (m .entry)) s (fitsDecision (passes (now (m .entry)) (now (c .entry))) (now (c .entry)) s) ⌝ }
+    ensures { λ r. ⌜ now (m .exit) ≡ decisionMessage (now (m .entry)) s (fitsDecision (passes (now (m .entry)) (now (c .entry))) (now (c .entry)) s) ⌝ }
 {
-    let found = all_fits(c, s);
+    let found = all_fits(m, c, s);
     let changes = found.changes;
     let place = found.place;
     let pattern = found.pattern;

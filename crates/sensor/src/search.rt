@@ -7,7 +7,8 @@ ghost use mathlib.Core.Path.{_≡_};
 ghost use lib.Dec.{eqb};
 ghost use lib.ListN.{length};
 ghost use Rattle.division.specs.Division.{backward};
-ghost use Rattle.message.specs.Bits.{lastWindow};
+ghost use Rattle.message.specs.Message.{firstBitAgrees};
+ghost use Rattle.message.specs.Bits.{lastWindow, inverted, place as placeOf};
 ghost use Rattle.sensor.specs.Verdicts.{passes};
 ghost use Rattle.sensor.specs.Searching.{Sound, noted, kept, visited, searchTo};
 use division::Word;
@@ -22,10 +23,11 @@ pub(crate) struct Search {
 }
 
 // The fits of every window, of a syndrome that is not zero.
-pub(crate) fn all_fits(c: &[u8], syndrome: u32) -> Search
+pub(crate) fn all_fits(m: &[u8], c: &[u8], syndrome: u32) -> Search
     requires { ⌜ (3 ≤ length (now c)) × (length (now c) ≤ 14) ⌝ }
+    requires { ⌜ length (now c) ≡ length (now m) ⌝ }
     requires { ⌜ (0 < syndrome) × (syndrome < 2 ^ 24) ⌝ }
-    ensures { λ r. ⌜ r ≡ searchTo (passes (now (c .entry))) syndrome (suc (lastWindow (now (c .entry)))) ⌝ }
+    ensures { λ r. ⌜ r ≡ searchTo (passes (now (m .entry)) (now (c .entry))) syndrome (suc (lastWindow (now (c .entry)))) ⌝ }
 {
     let count = c.len() * 8 - 23;
     let mut state = Search {
@@ -36,30 +38,47 @@ pub(crate) fn all_fits(c: &[u8], syndrome: u32) -> Search
     };
     let mut next: usize = 0;
     while next < count {
-        state = visit(state, c, next);
+        state = visit(state, m, c, next);
         next += 1;
     }
     state
 }
 
 // One window.
-fn visit(state: Search, c: &[u8], place: usize) -> Search
+fn visit(state: Search, m: &[u8], c: &[u8], place: usize) -> Search
     requires { ⌜ (3 ≤ length (now c)) × (length (now c) ≤ 14) ⌝ }
+    requires { ⌜ length (now c) ≡ length (now m) ⌝ }
     requires { ⌜ place ≤ lastWindow (now c) ⌝ }
     requires { ⌜ Sound state place ⌝ }
-    ensures { λ r. ⌜ r ≡ visited (passes (now (c .entry))) state place ⌝ }
+    ensures { λ r. ⌜ r ≡ visited (passes (now (m .entry)) (now (c .entry))) state place ⌝ }
 {
     let pattern = state.candidate;
     let window = c.len() * 8 - 24 - place;
     let at = window / 8;
     let offset = (window % 8) as u32;
-    let here = windows::fits(&c[at..], offset, pattern);
+    let marked = windows::fits(&c[at..], offset, pattern);
+    let here = marked & leaves_first_bit(m, window, pattern);
     let seen = keep(state, here, place as u32);
     Search {
         candidate: divide_by_x(pattern),
         changes: seen.changes,
         place: seen.place,
         pattern: seen.pattern,
+    }
+}
+
+// Whether the message with the pattern added in the window has a first bit that agrees with its length. The first bit is the
+// top bit of window 0.
+fn leaves_first_bit(m: &[u8], window: usize, pattern: u32) -> bool
+    requires { ⌜ (3 ≤ length (now m)) × (length (now m) ≤ 14) ⌝ }
+    requires { ⌜ (window ≤ lastWindow (now m)) × (pattern < 2 ^ 24) ⌝ }
+    ensures { λ r. ⌜ r ≡ firstBitAgrees (inverted (now (m .entry)) (pattern * 2 ^ placeOf (now (m .entry)) window)) ⌝ }
+{
+    let agrees = message::first_bit_agrees(m);
+    if (window == 0) & (0x800000 <= pattern) {
+        !agrees
+    } else {
+        agrees
     }
 }
 

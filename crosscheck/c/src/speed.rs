@@ -34,7 +34,7 @@ fn correct_in_rust(call: &mut Call) -> u64 {
     if let Some(window) = dense_window(low, 89, call.limit) {
         return u64::from(window) << 24 | 8;
     }
-    match fits(low, 89, syndrome) {
+    match fits(low, 89, syndrome, call.message[0] >= 0x80) {
         None => 9,
         Some((place, candidate, several)) => {
             bytes[..14].copy_from_slice(&call.message);
@@ -54,7 +54,9 @@ fn correct_in_c(call: &mut Call) -> u64 {
 /// is to be clean), with these bits marked low, or others, and some more.
 fn call(random: &mut Random, kind: &str) -> Call {
     let word = random.word();
-    let sent = bytes_of_bits(&with_parity(&bits_of_bytes(&random.bytes(11)), word));
+    let mut field = random.bytes(11);
+    field[0] |= 0x80;
+    let sent = bytes_of_bits(&with_parity(&bits_of_bytes(&field), word));
     let mut message: [u8; 14] = sent.try_into().expect("14 bytes");
     let mut confidence = [0; 14];
     let window = random.below(89);

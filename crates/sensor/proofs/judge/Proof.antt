@@ -47,8 +47,8 @@ returns-2 c =
     let k : List ℕ = c .before .before .before .before .before .before .before .before .before .args .c .now in
     let l : ℕ = c .before .before .before .before .before .before .before .before .before .args .limit in
     let e = decides-hit m k w l (λ z. c .before .before .before .before .if1 .left (s ∙ z)) in (
-      c .before .before .judge-hit .ensures .0 ∙ ap (λ (x : ℕ). decisionAnswer m x (hitDecision (passes k) k x l)) s ∙ ap (decisionAnswer m (syndrome m w)) e,
-      c .before .before .judge-hit .ensures .1 ∙ ap (λ (x : ℕ). decisionMessage m x (hitDecision (passes k) k x l)) s ∙ ap (decisionMessage m (syndrome m w)) e,
+      c .before .before .judge-hit .ensures .0 ∙ ap (λ (x : ℕ). decisionAnswer m x (hitDecision (passes m k) k x l)) s ∙ ap (decisionAnswer m (syndrome m w)) e,
+      c .before .before .judge-hit .ensures .1 ∙ ap (λ (x : ℕ). decisionMessage m x (hitDecision (passes m k) k x l)) s ∙ ap (decisionMessage m (syndrome m w)) e,
     )
 
 pub judge-spec : {M : Type 1} → statement M
