@@ -12,7 +12,7 @@
 // A program here has no exit status: what went wrong is said on standard error, and nothing else is. bin/roster ends with 1
 // where something was said.
 //
-// The records are in one array of answer_all, and three functions beside it touch them (table.rt); the rest takes a line,
+// The records are in one array of answer_all, and four functions beside it take them (table.rt); the rest takes a line,
 // a record or what a call answered by value.
 ghost use Prim.Native.Nat.{_≤_};
 ghost use mathlib.Core.Path.{_≡_};
