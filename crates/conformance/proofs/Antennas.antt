@@ -20,7 +20,7 @@ use Rattle.division.specs.Division.{ReadsAs, parity, overlay}
 use Rattle.division.proofs.Laws.{address-law}
 use Rattle.encoder.specs.Seals.{withParity, sealOutcome, interrogationAfter}
 use Rattle.encoder.proofs.Laws.{interrogation-after, interrogation-is, sealed-length, sealed-first}
-use Rattle.transponder.specs.Receptions.{receptionOutcome, said}
+use Rattle.transponder.specs.Receptions.{Permitted, receptionOutcome, said}
 use Rattle.transponder.specs.declared.Reception.{Reception}
 use Rattle.transponder.specs.declared.Reception.the-variants as R
 use Rattle.antennas.specs.Antennas.{isTaken, antennaOf, Part, partOf, said as saidAntenna}
@@ -32,7 +32,7 @@ use Rattle.conformance.specs.Refusals.Part.{message, word, judged, ownAd
 use Rattle.conformance.specs.Refusals.Call.{receive, sealInterrogation, takenAntenna}
 use Rattle.conformance.specs.Sealing.{SealedCallIsRead}
 use Rattle.conformance.specs.Accepting.{Due, OursIsDue, OnlyOneIsDue, BurstNeverOwn}
-use Rattle.conformance.specs.Antennas.{Permitted, Whole, Taken, TakenIsAccepted, RefusedNotTaken, SaysUpper, SaysLower, SaysNeither, SaysRefused, returned, IsField, Apart, UpperPart, LowerPart, EmptyPart, PartLengths, BurstNeverDisplaces}
+use Rattle.conformance.specs.Antennas.{Whole, Taken, TakenIsAccepted, RefusedNotTaken, SaysUpper, SaysLower, SaysNeither, SaysRefused, returned, IsField, Apart, UpperPart, LowerPart, EmptyPart, PartLengths, BurstNeverDisplaces}
 use Rattle.conformance.proofs.Refusals.{refused-by-lowest, unrefused-where-none}
 use Rattle.conformance.proofs.Sealing.{sealed-call-is-read}
 use Rattle.conformance.proofs.Accepting.{ours-is-due, only-one-is-due, burst-never-own}

@@ -24,7 +24,7 @@ use Rattle.notices.proofs.Laws.{ones-shl}
 use Rattle.division.specs.Polynomial.{polynomial, downwards, product}
 use Rattle.division.specs.Division.{generator, generatorPowers, reduce, divide, quotient, remainder, parity, overlay, addressRead, ReadsAs, Carries}
 use Rattle.encoder.specs.Seals.{wordBytes, withParity, replyParity, interrogationParity, replySeal, interrogationSeal, sealOutcome, replyAfter, interrogationAfter}
-use Rattle.transponder.specs.Receptions.{receptionOf, isReserved, receptionOutcome, said}
+use Rattle.transponder.specs.Receptions.{receptionOf, isReserved, Permitted, receptionOutcome, said}
 use Rattle.transponder.specs.declared.Reception.the-variants.{Own, AllCall, Broadcast, NotOurs}
 use Rattle.sensor.specs.Changes.{OnLow, Fit, marksAt, lowMarks}
 use Rattle.sensor.specs.Verdicts.{soleMark, severalMark, cleanAnswer, denseAnswer, noFitAnswer, correctedAnswer, syndrome, decisionOf, checked, sensorOutcome, sensorAfter}
@@ -39,7 +39,7 @@ use Rattle.conformance.specs.Bursts.{Burst}
 use Rattle.conformance.specs.Accepting.{SaysNotOurs, BurstNeverOwn}
 use Rattle.conformance.specs.Correcting.{Judged, IsDense, LowestDense, NoneDense, LowestFit, OnlyChange, AnotherChange, Right, OnlyOneIsRight, OthersLeave, HitReply}
 use Rattle.conformance.specs.Correcting.Right.{clean, dense, noFit, sole, several}
-use Rattle.conformance.specs.Antennas.{Permitted, TakenIsAccepted, SaysUpper, SaysLower, returned, IsField, Apart, UpperPart, BurstNeverDisplaces}
+use Rattle.conformance.specs.Antennas.{TakenIsAccepted, SaysUpper, SaysLower, returned, IsField, Apart, UpperPart, BurstNeverDisplaces}
 use Rattle.conformance.specs.Packing.{numberOf}
 use Rattle.conformance.specs.Packing.FromC.{correct}
 use Rattle.conformance.proofs.Refusals.{decision-final}

@@ -1,4 +1,5 @@
 -- The theorems, in the order of the demands.
+pub mod Rows
 pub mod Refusals
 pub mod Sealing
 pub mod Bursts

@@ -21,15 +21,13 @@ use Rattle.division.specs.Polynomial.{product}
 use Rattle.division.specs.Division.{generator, quotient, remainder, parity, overlay}
 use Rattle.division.proofs.Laws.{xor-cancel, remainder-xor, division-equation, multiple, product-lt, quotient-lt, remainder-by-address, overlay-lt}
 use Rattle.encoder.specs.Seals.{sealOutcome, replyAfter, interrogationAfter, withParity}
-use Rattle.encoder.proofs.Laws.{was-accepted, reply-after, interrogation-after, reply-is, interrogation-is, reply-lt, sealed-length, sealed-bytes}
+use Rattle.encoder.proofs.Laws.{was-accepted, reply-after, interrogation-after, reply-is, interrogation-is, reply-lt, sealed-length, sealed-bytes, remainder-sealed}
 use Rattle.transponder.specs.Receptions.{receptionOutcome, said}
 use Rattle.transponder.specs.declared.Reception.the-variants.{Own}
 use Rattle.sensor.specs.Verdicts.{cleanAnswer, sensorOutcome}
 use Rattle.notices.proofs.Laws.{even-of-zero, two-noticed, five-noticed, seven-noticed, two-of-eight, two-of-twelve}
-use Rattle.conformance.specs.Sealing.{Message}
 use Rattle.conformance.specs.Correcting.{Judged, SaysClean}
 use Rattle.conformance.specs.Noticing.{ByTwos, Exactly, UpTo, TwoBursts, OddNeverClean, OddNeverOwn, TwoNeverClean, TwoNeverOwn, FewNeverClean, FewNeverOwn, TwoBurstsNeverClean, TwoBurstsNeverOwn, PassExactly, OneInTwoTo24}
-use Rattle.conformance.proofs.Sealing.{remainder-sealed}
 use Rattle.conformance.proofs.Accepting.{own-read}
 use Rattle.conformance.proofs.Correcting.{says-clean}
 
@@ -42,7 +40,6 @@ record SealedAs (m s : List ℕ) (r : ℕ) : Type 0 where
 
 with-sum : (m s : List ℕ) (x : ℕ) → Bytes m → sealOutcome m x ≡ done → (y : ℕ) → y < 2 ^ 24
     → s ≡ withParity m (bitXor (parity (number (field m))) y) → SealedAs m s y
-unfolding Message
 with-sum m s x hm e y hy is =
     let long = was-accepted m x e .0 in
     let ge = message-length-ge (length m) long in
@@ -50,7 +47,7 @@ with-sum m s x hm e y hy is =
     record {
       same-length = ap length is ∙ sealed-length m p ge;
       bytes = subst Bytes (sym is) (sealed-bytes m p ge hm (reply-lt m y hy));
-      carried = ap (λ (l : List ℕ). remainder (number l)) is ∙ remainder-sealed m y (hm, long) hy;
+      carried = ap (λ (l : List ℕ). remainder (number l)) is ∙ remainder-sealed m y ge hy;
     }
 
 sealed-reply : (m : List ℕ) (w : ℕ) → Bytes m → sealOutcome m w ≡ done → SealedAs m (replyAfter m w) w

@@ -2,33 +2,28 @@
 -- the table; one induction over such a chain serves every call, and each row's test is passed exactly when the part is not
 -- wrong.
 use mathlib.Core.Path.{_≡_, refl, sym, ap, ap₂, _∙_, subst}
-use mathlib.Core.Logic.{_⊎_, inl, inr, _↔_}
+use mathlib.Core.Logic.{_⊎_, inl, inr}
 use mathlib.Core.List.{List, [], _∷_}
-use mathlib.Core.Bool.{Bool, true, false, not, cond, _&&_, _||_}
-use Prim.Native.Nat.{ℕ, _%_, _<_, _≤_}
+use mathlib.Core.Bool.{Bool, true, false, not, cond}
+use Prim.Native.Nat.{ℕ, _<_, _≤_}
 use native.Mathlib.Nat.{eq-or-lt-of-le, lt-irrefl}
 use native.Mathlib.Omega.{arith}
-use lib.Dec.{T, eqb, leb, lit≤, lt→ltb}
-use lib.IntN.{ℤ, pos, negsuc, natAbs}
+use lib.Dec.{lit≤}
 use lib.ListN.{length}
-use lib.Signed.{leZ, _≤ℤ_, _<ℤ_, clashℤ}
-use borrow.Author.Tests.{eqb-true, eqb-false, eq-eqb, ne-eqb, leb-false, lt-leb, not-false}
 use Rattle.outcome.specs.Outcomes.{Outcome, value, done, unless, Unrefused}
 use Rattle.outcome.specs.Outcomes.Outcome.{refusal, answer}
-use Rattle.outcome.proofs.Laws.{never, or-cases, or-second, refusal-is-no-answer, left-of}
-use Rattle.message.specs.Message.{number, bitOf, firstBit, formatNumber, isMessageLength, isFieldLength, isWord, firstBitAgrees}
+use Rattle.outcome.proofs.Laws.{never, refusal-is-no-answer, left-of}
+use Rattle.message.specs.Message.{number, bitOf, formatNumber, isMessageLength, isWord, firstBitAgrees}
 use Rattle.division.specs.Division.{shiftIn, backward, overlay, parity, remainder, addressRead}
 use Rattle.division.specs.Answers.{registerAnswer, backwardAnswer, overlayAnswer, parityAnswer, remainderAnswer, addressAnswer}
 use Rattle.encoder.specs.Seals.{sealOutcome, replySeal, replyAfter, interrogationSeal, interrogationAfter}
-use Rattle.transponder.specs.Receptions.{everyone, receptionOf, isReserved, receptionOutcome, said}
+use Rattle.transponder.specs.Receptions.{receptionOf, isReserved, receptionOutcome, said}
 use Rattle.transponder.specs.declared.Reception.{Reception}
 use Rattle.transponder.specs.declared.Reception.the-variants.{Own, AllCall, Broadcast, NotOurs, Refused}
 use Rattle.transponder.proofs.Laws.{Case, case}
 use Rattle.sensor.specs.Verdicts.{syndrome, Decision, decisionOf, decisionAnswer, checked, sensorOutcome}
 use Rattle.sensor.specs.Verdicts.Decision.{clean, dense, noFit, corrected}
 use Rattle.sensor.proofs.Laws.{after-refused}
-use Rattle.altitude_code.specs.Altitudes.{lowest, highest, inCode}
-use Rattle.altitude_code.proofs.Laws.{was-in-code}
 use Rattle.altitude.specs.Fields.{hasAltitude}
 use Rattle.altitude.specs.Answers.{saidAltitude, saidWriting, readingOf, readingOutcome, writingOutcome}
 use Rattle.altitude.specs.declared.Writing.the-variants.{Written, NoSuchField}
@@ -38,146 +33,18 @@ use Rattle.antennas.specs.declared.Antenna.{Antenna}
 use Rattle.antennas.specs.declared.Antenna.the-variants.{Upper, Lower, Neither, Refused as AntennaRefused}
 use Rattle.antennas.proofs.Laws.{Case as AntennaCase, case as antenna-case, said-by-tests}
 use Rattle.rollcall_table.specs.declared.Record.{Record}
-use Rattle.rollcall_table.specs.Table.{recordAt, rightLengths, isSound, holder, isIn, hasRoom}
+use Rattle.rollcall_table.specs.Table.{recordAt, holder, isIn}
 use Rattle.rollcall_plans.specs.Calls.{found, absent, clearOutcome, findOutcome, removeOutcome, addOutcome}
-use Rattle.rollcall_meaning.proofs.Laws.{lengths-wrong, wrong-lengths, unsound, not-sound, no-place, place-none, clear-leaves, add-leaves, remove-leaves}
+use Rattle.rollcall_meaning.proofs.Laws.{clear-leaves, add-leaves, remove-leaves}
 use Rattle.uplink_elm.specs.declared.Progress.{Progress}
-use Rattle.uplink_elm.specs.Segments.{replyControl, segmentNumber}
 use Rattle.uplink_elm.specs.Receiving.{progressOf, withProgress, receiverAfter}
-use Rattle.uplink_elm.proofs.Laws.{opensNone, isAbove, unopened, above, opens-none, is-above, of-own, onward, by-reception, refused-leaves as segment-leaves}
-use Rattle.conformance.specs.Refusals.{Part, row, Wrong, Call, Lent, handed, outcome, lent, after, Breaks, SomeBreaks, Applies, RefusedByLowest, UnrefusedWhereNone, RefusedLeaves}
-use Rattle.conformance.specs.Refusals.Part.{message, field, confidence, word, limit, judged, ownAddress, altitude, lengths, table, entering, opening, numbered}
-use Rattle.conformance.specs.Refusals.Call.{registerStep, registerBack, uplinkOverlay, fieldParity, messageRemainder, addressRead as readAddress, sealReply, sealInterrogation, receive, correct, readAltitude, writeAltitude, takenAntenna, clearTable, addOrRenew, removeRecord, findRecord, receiveSegment}
+use Rattle.uplink_elm.proofs.Laws.{onward, by-reception, refused-leaves as segment-leaves}
+use Rattle.uplink_elm_sending.specs.Sending.{segmentCount, lastNumbers, roundNumbers, lastOutcome, roundOutcome}
+use Rattle.uplink_elm_sending.proofs.Laws.{opening-leaves, exchange-leaves, round-leaves}
+use Rattle.conformance.specs.Refusals.{Part, row, Call, handed, outcome, lent, after, Breaks, SomeBreaks, Applies, RefusedByLowest, UnrefusedWhereNone, RefusedLeaves}
+use Rattle.conformance.specs.Refusals.Call.{registerStep, registerBack, uplinkOverlay, fieldParity, messageRemainder, addressRead as readAddress, sealReply, sealInterrogation, receive, correct, readAltitude, writeAltitude, takenAntenna, clearTable, addOrRenew, removeRecord, findRecord, receiveSegment, sendOpening, sendRound, sendExchange}
 use Rattle.conformance.specs.Refusals.Lent.{bytes, rollcall, upload}
-
--- ---- the test of each part
-
-passes : Part → Bool
-passes (message m) = isMessageLength (length m)
-passes (field f) = isFieldLength (length f)
-passes (confidence m c) = eqb (length c) (length m)
-passes (word w) = isWord w
-passes (limit l) = leb l 24
-passes (judged m) = firstBitAgrees m
-passes (ownAddress a) = not (isReserved a)
-passes (altitude z s) = inCode z s
-passes (lengths rs ps) = rightLengths (length rs) (length ps)
-passes (table rs ps n) = isSound rs ps n
-passes (entering rs a) = isIn rs a || hasRoom rs
-passes (opening own m r) = not (unopened own m r)
-passes (numbered own m r) = not (above own m r)
-
--- two tests of equality, either of which will do
-either-false : (a b c : ℕ) → ((eqb a b || eqb a c) ≡ false) ↔ ((a ≡ b → ⊥) × (a ≡ c → ⊥))
-either-false a b c = (there (eqb a b) refl, λ h. back (h .0) (h .1))
-  where
-    there : (x : Bool) → eqb a b ≡ x → (x || eqb a c) ≡ false → (a ≡ b → ⊥) × (a ≡ c → ⊥)
-    there true p e = absurd (never refl e)
-    there false p e = (eqb-false a b p, eqb-false a c e)
-
-    back : (a ≡ b → ⊥) → (a ≡ c → ⊥) → (eqb a b || eqb a c) ≡ false
-    back h k = ap (λ (x : Bool). x || eqb a c) (ne-eqb a b h) ∙ ne-eqb a c k
-
-first-bit-wrong : (m : List ℕ) → firstBitAgrees m ≡ false
-    → ((length m ≡ 14) × (firstBit m ≡ 1 → ⊥)) ⊎ ((length m ≡ 14 → ⊥) × (firstBit m ≡ 0 → ⊥))
-unfolding firstBitAgrees
-first-bit-wrong m e = by (eqb (length m) 14) refl
-  where
-    by : (x : Bool) → eqb (length m) 14 ≡ x → ((length m ≡ 14) × (firstBit m ≡ 1 → ⊥)) ⊎ ((length m ≡ 14 → ⊥) × (firstBit m ≡ 0 → ⊥))
-    by true p = inl (eqb-true (length m) 14 p, eqb-false (firstBit m) 1 (sym (ap (λ (x : Bool). eqb (firstBit m) (bitOf x)) p) ∙ e))
-    by false p = inr (eqb-false (length m) 14 p, eqb-false (firstBit m) 0 (sym (ap (λ (x : Bool). eqb (firstBit m) (bitOf x)) p) ∙ e))
-
-wrong-first-bit : (m : List ℕ) → ((length m ≡ 14) × (firstBit m ≡ 1 → ⊥)) ⊎ ((length m ≡ 14 → ⊥) × (firstBit m ≡ 0 → ⊥))
-    → firstBitAgrees m ≡ false
-unfolding firstBitAgrees
-wrong-first-bit m (inl h) = ap (λ (x : Bool). eqb (firstBit m) (bitOf x)) (eq-eqb (length m) 14 (h .0)) ∙ ne-eqb (firstBit m) 1 (h .1)
-wrong-first-bit m (inr h) = ap (λ (x : Bool). eqb (firstBit m) (bitOf x)) (ne-eqb (length m) 14 (h .0)) ∙ ne-eqb (firstBit m) 0 (h .1)
-
-reserved : (a : ℕ) → isReserved a ≡ true → (a ≡ 0x000000) ⊎ (a ≡ 0xFFFFFF)
-unfolding isReserved
-reserved a e = by (or-cases (eqb a 0) (eqb a everyone) e)
-  where
-    by : (eqb a 0 ≡ true) ⊎ (eqb a everyone ≡ true) → (a ≡ 0x000000) ⊎ (a ≡ 0xFFFFFF)
-    by (inl p) = inl (eqb-true a 0 p)
-    by (inr p) = inr (eqb-true a everyone p)
-
-is-reserved : (a : ℕ) → (a ≡ 0x000000) ⊎ (a ≡ 0xFFFFFF) → isReserved a ≡ true
-unfolding isReserved
-is-reserved a (inl e) = ap (λ (x : Bool). x || eqb a everyone) (eq-eqb a 0 e)
-is-reserved a (inr e) = or-second (eqb a 0) (eqb a everyone) (eq-eqb a everyone e)
-
--- the order of the integers, by its test
-not-le : (a b : ℤ) → leZ a b ≡ false → b <ℤ a
-not-le (pos a) (pos b) e = record { lt = lt→ltb b a (leb-false a b e) }
-not-le (pos a) (negsuc b) e = record { lt = tt }
-not-le (negsuc a) (pos b) e = absurd (never refl e)
-not-le (negsuc a) (negsuc b) e = record { lt = lt→ltb a b (leb-false b a e) }
-
-is-le : (a b : ℤ) → leZ a b ≡ true → a ≤ℤ b
-is-le a b e = record { le = subst T (sym e) tt }
-
--- an altitude that the code of its step does not have
-not-in-code : (z : ℤ) (s : ℕ) → inCode z s ≡ false → ((s ≡ 25 → ⊥) × (s ≡ 100 → ⊥)) ⊎ ((natAbs z % s ≡ 0 → ⊥) ⊎ ((z <ℤ lowest s) ⊎ (highest s <ℤ z)))
-unfolding inCode
-not-in-code z s e = by (eqb s 25 || eqb s 100) refl (eqb (natAbs z % s) 0) refl (leZ (lowest s) z) refl (leZ z (highest s)) refl e
-  where
-    by : (a : Bool) → (eqb s 25 || eqb s 100) ≡ a → (b : Bool) → eqb (natAbs z % s) 0 ≡ b → (c : Bool) → leZ (lowest s) z ≡ c → (d : Bool) → leZ z (highest s) ≡ d
-        → (a && (b && (c && d))) ≡ false → ((s ≡ 25 → ⊥) × (s ≡ 100 → ⊥)) ⊎ ((natAbs z % s ≡ 0 → ⊥) ⊎ ((z <ℤ lowest s) ⊎ (highest s <ℤ z)))
-    by false p b q c r d t e = inl (either-false s 25 100 .0 p)
-    by true p false q c r d t e = inr (inl (eqb-false _ _ q))
-    by true p true q false r d t e = inr (inr (inl (not-le (lowest s) z r)))
-    by true p true q true r false t e = inr (inr (inr (not-le z (highest s) t)))
-    by true p true q true r true t e = absurd (never refl e)
-
-not-of-code : (z : ℤ) (s : ℕ) → ((s ≡ 25 → ⊥) × (s ≡ 100 → ⊥)) ⊎ ((natAbs z % s ≡ 0 → ⊥) ⊎ ((z <ℤ lowest s) ⊎ (highest s <ℤ z))) → inCode z s ≡ false
-not-of-code z s h = by (inCode z s) refl h
-  where
-    by : (t : Bool) → inCode z s ≡ t → ((s ≡ 25 → ⊥) × (s ≡ 100 → ⊥)) ⊎ ((natAbs z % s ≡ 0 → ⊥) ⊎ ((z <ℤ lowest s) ⊎ (highest s <ℤ z))) → t ≡ false
-    by false e h = refl
-    by true e (inl n) = absurd (step (was-in-code z s e .step) n)
-      where
-        step : (s ≡ 25) ⊎ (s ≡ 100) → (s ≡ 25 → ⊥) × (s ≡ 100 → ⊥) → ⊥
-        step (inl p) n = n .0 p
-        step (inr p) n = n .1 p
-    by true e (inr (inl n)) = absurd (n (was-in-code z s e .multiple))
-    by true e (inr (inr (inl n))) = clashℤ n (is-le (lowest s) z (was-in-code z s e .from-lowest))
-    by true e (inr (inr (inr n))) = clashℤ n (is-le z (highest s) (was-in-code z s e .to-highest))
-
-failed-wrong : (p : Part) → passes p ≡ false → Wrong p
-unfolding passes Wrong isMessageLength isFieldLength isWord
-failed-wrong (message m) e = either-false (length m) 7 14 .0 e
-failed-wrong (field f) e = either-false (length f) 4 11 .0 e
-failed-wrong (confidence m c) e = eqb-false (length c) (length m) e
-failed-wrong (word w) e = leb-false w 0xFFFFFF e
-failed-wrong (limit l) e = leb-false l 24 e
-failed-wrong (judged m) e = first-bit-wrong m e
-failed-wrong (ownAddress a) e = reserved a (not-false (isReserved a) e)
-failed-wrong (altitude z s) e = not-in-code z s e
-failed-wrong (lengths rs ps) e = lengths-wrong (length rs) (length ps) e
-failed-wrong (table rs ps n) e = unsound rs ps n e
-failed-wrong (entering rs a) e = no-place rs a e
-failed-wrong (opening own m r) e =
-    let h = of-own own m (opensNone (replyControl m) (segmentNumber m) r) .0 (not-false (unopened own m r) e) in
-    (h .0, h .1, opens-none (replyControl m) (segmentNumber m) r .0 (h .2))
-failed-wrong (numbered own m r) e =
-    let h = of-own own m (isAbove (replyControl m) (segmentNumber m) r) .0 (not-false (above own m r) e) in
-    (h .0, h .1, is-above (replyControl m) (segmentNumber m) r .0 (h .2))
-
-wrong-failed : (p : Part) → Wrong p → passes p ≡ false
-unfolding passes Wrong isMessageLength isFieldLength isWord
-wrong-failed (message m) h = either-false (length m) 7 14 .1 h
-wrong-failed (field f) h = either-false (length f) 4 11 .1 h
-wrong-failed (confidence m c) h = ne-eqb (length c) (length m) h
-wrong-failed (word w) h = lt-leb w 0xFFFFFF h
-wrong-failed (limit l) h = lt-leb l 24 h
-wrong-failed (judged m) h = wrong-first-bit m h
-wrong-failed (ownAddress a) h = ap not (is-reserved a h)
-wrong-failed (altitude z s) h = not-of-code z s h
-wrong-failed (lengths rs ps) h = wrong-lengths (length rs) (length ps) h
-wrong-failed (table rs ps n) h = not-sound rs ps n h
-wrong-failed (entering rs a) h = place-none rs a h
-wrong-failed (opening own m r) h = ap not (of-own own m _ .1 (h .0, h .1, opens-none (replyControl m) (segmentNumber m) r .1 (h .2)))
-wrong-failed (numbered own m r) h = ap not (of-own own m _ .1 (h .0, h .1, is-above (replyControl m) (segmentNumber m) r .1 (h .2)))
+use Rattle.conformance.proofs.Rows.{passes, failed-wrong, wrong-failed}
 
 -- ---- a chain of tests
 
@@ -277,6 +144,9 @@ final (addOrRenew rs ps n s) = cond (isIn rs (s .address)) (answer 2 []) (answer
 final (removeRecord rs ps n a) = cond (isIn rs a) (answer 3 []) absent
 final (findRecord rs ps n a) = cond (isIn rs a) (found (recordAt rs (holder rs a))) absent
 final (receiveSegment own m r s) = withProgress (said (receptionOf own (addressRead (number m)) (formatNumber m))) (progressOf (receiverAfter own m r))
+final (sendOpening a d b) = value (length (lastNumbers (segmentCount (length d))))
+final (sendRound a d k s b) = value (length (roundNumbers k (segmentCount (length d)) s))
+final (sendExchange a d b) = value (length (lastNumbers (segmentCount (length d))))
 
 -- the transponder's four rows before the answer of another call
 four-rows : (own a f : ℕ) (r : Reception) → Case own a f r → (o : Outcome) (s t u v : Bool)
@@ -295,7 +165,7 @@ four-rows own a f r h o true false u v = refl
 four-rows own a f r h o false t u v = refl
 
 is-chain : (c : Call) → chain (handed c) (final c) ≡ outcome c
-unfolding chain passes row handed final outcome registerAnswer backwardAnswer overlayAnswer parityAnswer remainderAnswer addressAnswer sealOutcome receptionOutcome sensorOutcome checked readingOutcome writingOutcome clearOutcome addOutcome removeOutcome findOutcome
+unfolding chain passes row handed final outcome registerAnswer backwardAnswer overlayAnswer parityAnswer remainderAnswer addressAnswer sealOutcome receptionOutcome sensorOutcome checked readingOutcome writingOutcome clearOutcome addOutcome removeOutcome findOutcome lastOutcome roundOutcome
 is-chain (registerStep r b) = refl
 is-chain (registerBack r) = refl
 is-chain (uplinkOverlay a) = refl
@@ -317,6 +187,9 @@ is-chain (receiveSegment own m r s) =
     four-rows own (addressRead (number m)) (formatNumber m) (receptionOf own (addressRead (number m)) (formatNumber m)) (case own (addressRead (number m)) (formatNumber m)) _
     (isMessageLength (length m)) (isWord own) (firstBitAgrees m) (not (isReserved own))
     ∙ by-reception own m r
+is-chain (sendOpening a d b) = refl
+is-chain (sendRound a d k s b) = refl
+is-chain (sendExchange a d b) = refl
 
 in-order : (c : Call) → From 0 (handed c)
 unfolding From handed row
@@ -338,6 +211,9 @@ in-order (addOrRenew rs ps n s) = (lit≤ tt, (lit≤ tt, (lit≤ tt, tt)))
 in-order (removeRecord rs ps n a) = (lit≤ tt, (lit≤ tt, tt))
 in-order (findRecord rs ps n a) = (lit≤ tt, (lit≤ tt, tt))
 in-order (receiveSegment own m r s) = (lit≤ tt, (lit≤ tt, (lit≤ tt, (lit≤ tt, (lit≤ tt, (lit≤ tt, tt))))))
+in-order (sendOpening a d b) = (lit≤ tt, (lit≤ tt, (lit≤ tt, tt)))
+in-order (sendRound a d k s b) = (lit≤ tt, (lit≤ tt, (lit≤ tt, (lit≤ tt, tt))))
+in-order (sendExchange a d b) = (lit≤ tt, (lit≤ tt, (lit≤ tt, tt)))
 
 reception-final : (own a f : ℕ) (r : Reception) → Case own a f r → Unrefused (said r)
 reception-final own a f Own h n e = refusal-is-no-answer (sym e)
@@ -394,6 +270,9 @@ is-final (addOrRenew rs ps k s) n e = either-final (isIn rs (s .address)) 2 1 []
 is-final (removeRecord rs ps k a) n e = either-final (isIn rs a) 3 5 [] [] n e
 is-final (findRecord rs ps k a) n e = either-final (isIn rs a) 4 5 _ [] n e
 is-final (receiveSegment own m r s) n e = segment-final own (addressRead (number m)) (formatNumber m) (receptionOf own (addressRead (number m)) (formatNumber m)) _ (case own (addressRead (number m)) (formatNumber m)) n e
+is-final (sendOpening a d b) n e = refusal-is-no-answer (sym e)
+is-final (sendRound a d k s b) n e = refusal-is-no-answer (sym e)
+is-final (sendExchange a d b) n e = refusal-is-no-answer (sym e)
 
 -- ---- the theorems
 
@@ -434,3 +313,6 @@ refused-leaves (addOrRenew rs ps k s) n e = let l = add-leaves rs ps k s n e in 
 refused-leaves (removeRecord rs ps k a) n e = let l = remove-leaves rs ps k a n e in same rs _ ps _ k _ (l .0) (l .1 .0) (l .1 .1)
 refused-leaves (findRecord rs ps k a) n e = refl
 refused-leaves (receiveSegment own m r s) n e = let l = segment-leaves own m r s n e in ap₂ upload (l .0) (l .1)
+refused-leaves (sendOpening a d b) n e = ap bytes (opening-leaves a d b n e)
+refused-leaves (sendRound a d k s b) n e = ap bytes (round-leaves a d k s b n e)
+refused-leaves (sendExchange a d b) n e = ap bytes (exchange-leaves a d b n e)

@@ -9,10 +9,10 @@ use lib.ListN.{length}
 use Rattle.division.specs.Polynomial.{product}
 use Rattle.division.specs.Division.{generator, remainder, parity, overlay, addressRead}
 use Rattle.message.specs.Message.{number, field, parityField}
-use Rattle.division.proofs.Laws.{xor-cancel, message-remainder, remainder-parts, addressRead-remainder, address-law, overlay-lt, read-overlay, remainder-by-address, parity-is, overlay-coefficient}
+use Rattle.division.proofs.Laws.{xor-cancel, remainder-parts, address-law, overlay-lt, remainder-by-address, parity-is, overlay-coefficient}
 use Rattle.message.proofs.Laws.{message-length-ge, lt-word}
 use Rattle.encoder.specs.Seals.{withParity, interrogationSeal}
-use Rattle.encoder.proofs.Laws.{sealed-field, sealed-parity-number, sealed-number, own-parity, reply-is, interrogation-is, reply-lt, interrogation-after, accepted, was-accepted}
+use Rattle.encoder.proofs.Laws.{sealed-field, sealed-parity-number, own-parity, reply-is, interrogation-is, reply-lt, interrogation-after, remainder-sealed, sealed-read, accepted, was-accepted}
 use Rattle.conformance.specs.Sealing.{Message, coefficient, parityBit, remainderOfField, ReplyBits, InterrogationBits, ReplyCarries, CarriesReply, SealedIsRead, ReadIsSealed, SealedCallIsRead, ReadIsSealedCall}
 
 -- ---- the parity field, bit by bit
@@ -53,13 +53,6 @@ interrogation-bits m a i hm ha lo hi = (
 
 -- ---- carrying and reading
 
-pub remainder-sealed : (m : List ℕ) (s : ℕ) → Message m → s < 2 ^ 24 → remainder (number (withParity m (bitXor (parity (number (field m))) s))) ≡ s
-unfolding Message
-remainder-sealed m s hm hs =
-    ap remainder (sealed-number m (bitXor (parity (number (field m))) s) (message-length-ge (length m) (hm .1)) (reply-lt m s hs))
-    ∙ message-remainder (number (field m)) (bitXor (parity (number (field m))) s) (reply-lt m s hs)
-    ∙ xor-cancel (parity (number (field m))) s
-
 -- a message whose remainder is s is its own field sealed with s
 sealed-by-remainder : (m : List ℕ) (s : ℕ) → Message m → remainder (number m) ≡ s → m ≡ withParity m (bitXor (parity (number (field m))) s)
 unfolding Message
@@ -73,25 +66,20 @@ sealed-by-remainder m s hm e =
     ge = message-length-ge (length m) (hm .1)
 
 pub reply-carries : ReplyCarries
-unfolding ReplyCarries
+unfolding ReplyCarries Message
 reply-carries m w v hm hw =
-    let r = ap (λ (l : List ℕ). remainder (number l)) (reply-is m w) ∙ remainder-sealed m w hm hw in
+    let r = ap (λ (l : List ℕ). remainder (number l)) (reply-is m w) ∙ remainder-sealed m w (message-length-ge (length m) (hm .1)) hw in
     (λ e. sym e ∙ r, λ e. r ∙ sym e)
 
 pub carries-reply : CarriesReply
 unfolding CarriesReply
 carries-reply m w hm e = sealed-by-remainder m w hm e ∙ sym (reply-is m w)
 
-pub sealed-read : (m : List ℕ) (a : ℕ) → Message m → a < 2 ^ 24 → addressRead (number (interrogationSeal m a)) ≡ a
-sealed-read m a hm ha =
-    ap (λ (l : List ℕ). addressRead (number l)) (interrogation-is m a)
-    ∙ addressRead-remainder (number (withParity m (bitXor (parity (number (field m))) (overlay a))))
-    ∙ ap addressRead (remainder-sealed m (overlay a) hm (overlay-lt a)) ∙ read-overlay a ha
-
 pub sealed-is-read : SealedIsRead
-unfolding SealedIsRead
+unfolding SealedIsRead Message
 sealed-is-read m a hm ha =
-    (sealed-read m a hm ha, address-law (number (interrogationSeal m a)) a ha .0 (sealed-read m a hm ha))
+    let read = sealed-read m a (message-length-ge (length m) (hm .1)) ha in
+    (read, address-law (number (interrogationSeal m a)) a ha .0 read)
 
 pub read-is-sealed : ReadIsSealed
 unfolding ReadIsSealed
@@ -100,10 +88,10 @@ read-is-sealed m a hm ha e =
     ∙ sym (interrogation-is m a)
 
 pub sealed-call-is-read : SealedCallIsRead
-unfolding SealedCallIsRead Message
+unfolding SealedCallIsRead
 sealed-call-is-read m a hb e =
     let ok = was-accepted m a e in
-    ap (λ (l : List ℕ). addressRead (number l)) (interrogation-after m a e) ∙ sealed-read m a (hb, ok .0) (ok .1)
+    ap (λ (l : List ℕ). addressRead (number l)) (interrogation-after m a e) ∙ sealed-read m a (message-length-ge (length m) (ok .0)) (ok .1)
 
 pub read-is-sealed-call : ReadIsSealedCall
 unfolding ReadIsSealedCall ReadIsSealed Message

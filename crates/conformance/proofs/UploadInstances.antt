@@ -15,14 +15,13 @@ use Rattle.message.specs.Bits.{inverted}
 use Rattle.division.specs.Polynomial.{polynomial, downwards, product}
 use Rattle.division.specs.Division.{generator, generatorPowers, reduce, divide, quotient, remainder, parity, overlay, addressRead}
 use Rattle.encoder.specs.Seals.{wordBytes, withParity, interrogationParity, interrogationSeal, sealOutcome, interrogationAfter}
-use Rattle.transponder.specs.Receptions.{receptionOf, isReserved, receptionOutcome}
+use Rattle.transponder.specs.Receptions.{receptionOf, isReserved, Permitted, receptionOutcome}
 use Rattle.uplink_elm.specs.declared.Receiver.{Receiver}
 use Rattle.uplink_elm.specs.Segments.{isExtended, replyControl, segmentNumber, segment, bitOf, isHeld, withNumber, allBelow, stored}
 use Rattle.uplink_elm.specs.Receiving.{freshReceiver, isWhole, effectOf, ownEffect, callEffect, receivingOutcome, receiverAfter, segmentsAfter}
 use Rattle.uplink_elm_meaning.specs.Running.{fresh, afterAll, answers, machineAfterAll, NoneAboveLast, PartsAreBits}
 use Rattle.uplink_elm_meaning.specs.Machine.{start, does, step, machineAfter}
 use Rattle.uplink_elm_meaning.proofs.Laws.{parts-are-bits, none-above-last}
-use Rattle.conformance.specs.Antennas.{Permitted}
 use Rattle.conformance.specs.Bursts.{Burst}
 use Rattle.conformance.specs.Uploads.{Sent, Each, Some, received, SentIsReceived, BurstChangesNothing}
 use Rattle.conformance.proofs.Instances.{are-bytes}

@@ -1,7 +1,7 @@
 -- Extended length messages from the encoder to the receiver. The idea: what was sealed for the own address is one step of the plain
 -- machine, by its RC; along the steps every segment held is the one that was sent, and what is held stays; the receiver is the
 -- machine's. A hit interrogation is not own, and so does nothing.
-use mathlib.Core.Path.{_≡_, refl, sym, ap, _∙_, subst}
+use mathlib.Core.Path.{_≡_, refl, sym, ap, ap₂, _∙_, subst}
 use mathlib.Core.Bool.{Bool, true, false, cond}
 use mathlib.Core.Logic.{_⊎_, inl, inr}
 use mathlib.Core.List.{List, [], _∷_, _++_}
@@ -10,67 +10,33 @@ use mathlib.Core.Option.Option.{none, some}
 use Prim.Native.Nat.{ℕ, _≤_, _<_}
 use native.Mathlib.Nat.{le-refl, eq-or-lt-of-le}
 use native.Mathlib.Omega.{arith}
-use lib.Bits.{bitXor}
 use lib.Dec.{eqb, leb}
-use lib.ListN.{length, getD}
 use borrow.Author.Tests.{eqb-true, eq-eqb, leb-true, leb-false}
-use Rattle.outcome.specs.Outcomes.{done}
 use Rattle.outcome.proofs.Laws.{never}
-use Rattle.message.specs.Message.{number, Bytes, field}
 use Rattle.message.specs.Bits.{inverted}
-use Rattle.division.specs.Division.{parity, overlay}
-use Rattle.division.proofs.Laws.{address-law}
-use Rattle.encoder.specs.Seals.{withParity, sealOutcome, interrogationAfter}
-use Rattle.encoder.proofs.Laws.{was-accepted, interrogation-after, interrogation-is, sealed-length, sealed-first, sealed-field}
-use Rattle.transponder.specs.Receptions.{receptionOutcome, said}
-use Rattle.transponder.specs.declared.Reception.the-variants.{Own}
+use Rattle.encoder.specs.Seals.{interrogationAfter}
+use Rattle.transponder.specs.Receptions.{Permitted, receptionOutcome}
 use Rattle.uplink_elm.specs.Segments.{segmentNumber, segment, isHeld, segmentAt}
 use Rattle.uplink_elm.specs.Receiving.{isOwn, progressOf, withProgress, receivingOutcome, receiverAfter, segmentsAfter}
-use Rattle.uplink_elm.proofs.Laws.{own-answer, long-format, parts-by-first, segment-by-field, other-leaves, whole-of-held}
+use Rattle.uplink_elm.proofs.Laws.{own-answer, other-leaves, whole-of-held}
 use Rattle.uplink_elm_meaning.specs.Machine.{Machine, start, isSome, storing, does, resulting, machineAfter}
 use Rattle.uplink_elm_meaning.specs.Running.{State, fresh, afterAll, machineAfterAll, Same}
-use Rattle.uplink_elm_meaning.proofs.Laws.{same-all, machine-after-none, machine-after-one, machine-after-append, step-of-own, opened-with, added-to}
-use Rattle.conformance.specs.Accepting.{Due, OnlyOneIsDue, BurstNeverOwn}
-use Rattle.conformance.specs.Antennas.{Permitted, Taken}
-use Rattle.conformance.specs.Sealing.{SealedCallIsRead}
+use Rattle.uplink_elm_meaning.proofs.Laws.{same-all, machine-after-none, machine-after-one, machine-after-append, opened-with, added-to, sealed-number-is, sealed-step}
+use Rattle.conformance.specs.Accepting.{BurstNeverOwn}
 use Rattle.conformance.specs.Uploads.{Sent, Each, Some, received, SentIsReceived, BurstChangesNothing}
-use Rattle.conformance.proofs.Sealing.{sealed-call-is-read}
-use Rattle.conformance.proofs.Accepting.{only-one-is-due, burst-never-own}
-use Rattle.conformance.proofs.Antennas.{receives, undamaged}
+use Rattle.conformance.proofs.Accepting.{burst-never-own}
 
 -- ---- what was sealed is one step of the machine
 
-pub sealed-is-own : (own : ℕ) (m : List ℕ) → Permitted own → Bytes m → sealOutcome m own ≡ done → receptionOutcome own (interrogationAfter m own) ≡ said Own
-unfolding OnlyOneIsDue Due Taken SealedCallIsRead Permitted
-sealed-is-own own m h hm e =
-    only-one-is-due own (interrogationAfter m own) (receives own (interrogationAfter m own) h (undamaged own m h hm e .0)) Own
-    (address-law (number (interrogationAfter m own)) own (omega (arith, h .0)) .0 (sealed-call-is-read m own hm e))
-
 module _ (own c n : ℕ) (b m : List ℕ) (h : Permitted own) (q : Sent own c n b m) where
-  u : List ℕ
-  u = q .unsealed
-
-  long : length u ≡ 14
-  unfolding u
-  long = long-format (q .unsealed) (was-accepted (q .unsealed) own (q .not-refused) .2) (q .format)
-
-  is : m ≡ withParity u (bitXor (parity (number (field u))) (overlay own))
-  unfolding u
-  is = q .sealed ∙ interrogation-after (q .unsealed) own (q .not-refused) ∙ interrogation-is (q .unsealed) own
-
-  first : getD m 0 0 ≡ getD u 0 0
-  first = ap (λ (l : List ℕ). getD l 0 0) is ∙ sealed-first u _ (omega (arith, long))
-
   pub sent-number : segmentNumber m ≡ n
-  unfolding u
-  sent-number = parts-by-first m u first .2 ∙ q .number-is
+  sent-number = ap segmentNumber (q .sealed) ∙ sealed-number-is own (q .unsealed) h (q .not-refused) (q .format) ∙ q .number-is
 
   pub sent-step : (s : Machine) → machineAfter own m s ≡ resulting (does c n b s) s
-  unfolding u
   sent-step s =
-      step-of-own own m c n b s (ap (receptionOutcome own) (q .sealed) ∙ sealed-is-own own u h (q .are-bytes) (q .not-refused))
-      (parts-by-first m u first .0 ∙ q .format) (parts-by-first m u first .1 ∙ q .control-is) sent-number
-      (segment-by-field m u (ap length is ∙ sealed-length u _ (omega (arith, long)) ∙ long) long (ap field is ∙ sealed-field u _ (omega (arith, long))) ∙ q .segment-is)
+      ap (λ (l : List ℕ). machineAfter own l s) (q .sealed) ∙ sealed-step own (q .unsealed) h (q .not-refused) (q .format) s
+      ∙ ap (λ (x : ℕ). resulting (does x (segmentNumber (q .unsealed)) (segment (q .unsealed)) s) s) (q .control-is)
+      ∙ ap₂ (λ (x : ℕ) (y : List ℕ). resulting (does c x y s) s) (q .number-is) (q .segment-is)
 
 -- ---- along the steps
 

@@ -12,17 +12,13 @@ use Rattle.message.specs.Message.{number, Bytes, field, firstBit, formatNumber}
 use Rattle.message.specs.Bits.{inverted}
 use Rattle.division.specs.Division.{ReadsAs}
 use Rattle.encoder.specs.Seals.{sealOutcome, interrogationAfter}
-use Rattle.transponder.specs.Receptions.{receptionOutcome, said}
+use Rattle.transponder.specs.Receptions.{Permitted, receptionOutcome, said}
 use Rattle.transponder.specs.declared.Reception.the-variants.{Own, AllCall, Broadcast}
 use Rattle.antennas.specs.Antennas.{antennaOf, Part, partOf}
 use Rattle.antennas.specs.declared.Antenna.the-variants.{Upper, Lower, Neither, Refused}
 use Rattle.conformance.specs.Bursts.{Burst}
 
 -- ---- what is taken
-
--- An own address to which neither row 3 nor row 6 applies.
-unfoldable pub Permitted : ℕ → Type 0
-Permitted own = (own ≤ 0xFFFFFF) × (own ≡ 0x000000 → ⊥) × (own ≡ 0xFFFFFF → ⊥)
 
 -- An interrogation to which neither row 1 nor row 5 applies: 'A first bit 0 belongs to n = 56 and 1 to n = 112.'
 unfoldable pub Whole : List ℕ → Type 0

@@ -4,7 +4,7 @@
 --
 -- The table is one relation for all calls: a call hands over parts, and each row is a condition on a part. A further call is
 -- a line in each of `handed`, `outcome`, `lent` and `after`; a further row is a part.
-use Prim.Native.Nat.{ℕ, _%_, _<_}
+use Prim.Native.Nat.{ℕ, _*_, _%_, _<_, _≤_}
 use mathlib.Core.Path.{_≡_}
 use mathlib.Core.Logic.{_↔_, _⊎_}
 use mathlib.Core.List.{List, [], _∷_}
@@ -14,7 +14,7 @@ use lib.ListN.{length}
 use lib.Signed.{_<ℤ_}
 use Rattle.outcome.specs.Outcomes.{Outcome, Unrefused}
 use Rattle.outcome.specs.Outcomes.Outcome.{refusal}
-use Rattle.outcome.specs.Refusals.{wrongLength, wrongConfidenceLength, wordTooLarge, limitTooLarge, firstBitContradicts, ownAddressReserved, altitudeNotInCode, tableUnsound, tableFull, nothingOpened, numberAboveLast}
+use Rattle.outcome.specs.Refusals.{wrongLength, wrongConfidenceLength, wordTooLarge, limitTooLarge, firstBitContradicts, ownAddressReserved, altitudeNotInCode, tableUnsound, tableFull, nothingOpened, numberAboveLast, notSendable}
 use Rattle.message.specs.Message.{firstBit}
 use Rattle.division.specs.Answers.{registerAnswer, backwardAnswer, overlayAnswer, parityAnswer, remainderAnswer, addressAnswer}
 use Rattle.encoder.specs.Seals.{sealOutcome, replyAfter, interrogationAfter}
@@ -31,13 +31,15 @@ use Rattle.rollcall_plans.specs.Calls.{clearOutcome, clearCount, clearRecords, 
 use Rattle.uplink_elm.specs.declared.Receiver.{Receiver}
 use Rattle.uplink_elm.specs.Segments.{isExtended, replyControl, segmentNumber}
 use Rattle.uplink_elm.specs.Receiving.{receivingOutcome, receiverAfter, segmentsAfter}
+use Rattle.uplink_elm_sending.specs.Sending.{segmentCount, lastNumbers, roundNumbers, lastOutcome, roundOutcome, openingAfter, exchangeAfter, roundAfter}
 
 -- ---- the table
 
 -- What a call hands over. A seal, the transponder and the altitude's calls judge the first bit of their message; a confidence
 -- buffer belongs to a message; a word may be an address or a register; an altitude, in feet, has its step; a roll-call table is
 -- its records, its places and its count, of which clear judges the lengths alone; an address is to enter a table's records; an own
--- address, a message and the receiver that hears it are judged together, by row 10 and by row 11.
+-- address, a message and the receiver that hears it are judged together, by row 10 and by row 11. Row 12 judges a message in segments, the
+-- size of a round, and the buffer for the transmissions of some numbers.
 pub data Part : Type 0 where
   message : List ℕ → Part
   field : List ℕ → Part
@@ -52,6 +54,9 @@ pub data Part : Type 0 where
   entering : List Record → ℕ → Part
   opening : ℕ → List ℕ → Receiver → Part
   numbered : ℕ → List ℕ → Receiver → Part
+  segmented : List ℕ → Part
+  roundSize : ℕ → Part
+  room : List ℕ → List ℕ → Part
 
 -- The number of the row that speaks of a part,
 unfoldable pub row : Part → ℕ
@@ -68,6 +73,9 @@ row (table rs ps n) = tableUnsound
 row (entering rs a) = tableFull
 row (opening own m r) = nothingOpened
 row (numbered own m r) = numberAboveLast
+row (segmented d) = notSendable
+row (roundSize s) = notSendable
+row (room b ns) = notSendable
 
 -- and its condition: 'message not 7 or 14 bytes, or field not 4 or 11'; 'confidence length differs from message length';
 -- 'word, address or register above FFFFFF'; 'density limit above 24'; 'first bit contradicts the length', where 'a first
@@ -75,7 +83,8 @@ row (numbered own m r) = numberAboveLast
 -- or FFFFFF'; 'the step is neither 25 nor 100, or the altitude is off it or out of that code's range' (document 02, Point 1);
 -- 'the two lengths differ or lie outside 1 to 1000', or the table is not sound; 'the address is new and every place is live'
 -- (Point 4); 'RC 1 or 2 with nothing opened, or RC 0 with NC 0', and 'RC 1 or 2 with NC above the opened last', 'only where the
--- answer is 'own' and the format this one' (Point 7).
+-- answer is 'own' and the format this one' (Point 7); 's outside 1 to 16, a message not of 2 to 16 whole segments, or a buffer not of 14 bytes
+-- for each transmission of that call' (Point 10).
 unfoldable pub Wrong : Part → Type 0
 Wrong (message m) = (length m ≡ 7 → ⊥) × (length m ≡ 14 → ⊥)
 Wrong (field f) = (length f ≡ 4 → ⊥) × (length f ≡ 11 → ⊥)
@@ -95,6 +104,9 @@ Wrong (opening own m r) =
 Wrong (numbered own m r) =
     (receptionOutcome own m ≡ said Own) × (isExtended m ≡ true)
     × (((replyControl m ≡ 1) ⊎ (replyControl m ≡ 2)) × (r .opened ≡ true) × (r .last < segmentNumber m))
+Wrong (segmented d) = (n : ℕ) → 2 ≤ n → n ≤ 16 → length d ≡ n * 10 → ⊥
+Wrong (roundSize s) = (s < 1) ⊎ (16 < s)
+Wrong (room b ns) = length b ≡ length ns * 14 → ⊥
 
 -- ---- the calls
 
@@ -118,6 +130,9 @@ pub data Call : Type 0 where
   removeRecord : List Record → List ℕ → ℕ → ℕ → Call
   findRecord : List Record → List ℕ → ℕ → ℕ → Call
   receiveSegment : ℕ → List ℕ → Receiver → List ℕ → Call
+  sendOpening : ℕ → List ℕ → List ℕ → Call
+  sendRound : ℕ → List ℕ → ℕ → ℕ → List ℕ → Call
+  sendExchange : ℕ → List ℕ → List ℕ → Call
 
 -- What each hands over: the table's column 'Calls'. The companion of the two-antenna transponder hands over the own address
 -- alone: 'A buffer that would be refused is simply not taken' (document 02, Point 5).
@@ -140,6 +155,9 @@ handed (addOrRenew rs ps n s) = word (s .address) ∷ table rs ps n ∷ entering
 handed (removeRecord rs ps n a) = word a ∷ table rs ps n ∷ []
 handed (findRecord rs ps n a) = word a ∷ table rs ps n ∷ []
 handed (receiveSegment own m r s) = message m ∷ word own ∷ judged m ∷ ownAddress own ∷ opening own m r ∷ numbered own m r ∷ []
+handed (sendOpening a d b) = word a ∷ segmented d ∷ room b (lastNumbers (segmentCount (length d))) ∷ []
+handed (sendRound a d k s b) = word a ∷ roundSize s ∷ segmented d ∷ room b (roundNumbers k (segmentCount (length d)) s) ∷ []
+handed (sendExchange a d b) = word a ∷ segmented d ∷ room b (lastNumbers (segmentCount (length d))) ∷ []
 
 -- What each answers: the definition that its contract names.
 unfoldable pub outcome : Call → Outcome
@@ -161,6 +179,9 @@ outcome (addOrRenew rs ps n s) = addOutcome rs ps n s
 outcome (removeRecord rs ps n a) = removeOutcome rs ps n a
 outcome (findRecord rs ps n a) = findOutcome rs ps n a
 outcome (receiveSegment own m r s) = receivingOutcome own m r
+outcome (sendOpening a d b) = lastOutcome a (length d) (length b)
+outcome (sendRound a d k s b) = roundOutcome a (length d) k s (length b)
+outcome (sendExchange a d b) = lastOutcome a (length d) (length b)
 
 -- What a call may change: a buffer of bytes; or a table's records and places, and its count, which is passed in and returned; or a
 -- receiver, which is passed in and returned, and the bytes of its places.
@@ -189,6 +210,9 @@ lent (addOrRenew rs ps n s) = rollcall rs ps n
 lent (removeRecord rs ps n a) = rollcall rs ps n
 lent (findRecord rs ps n a) = bytes []
 lent (receiveSegment own m r s) = upload r s
+lent (sendOpening a d b) = bytes b
+lent (sendRound a d k s b) = bytes b
+lent (sendExchange a d b) = bytes b
 
 unfoldable pub after : Call → Lent
 after (registerStep r b) = bytes []
@@ -209,6 +233,9 @@ after (addOrRenew rs ps n s) = rollcall (addRecords rs ps n s) (addPlaces rs ps 
 after (removeRecord rs ps n a) = rollcall (removeRecords rs ps n a) (removePlaces rs ps n a) (removeCount rs ps n a)
 after (findRecord rs ps n a) = bytes []
 after (receiveSegment own m r s) = upload (receiverAfter own m r) (segmentsAfter own m r s)
+after (sendOpening a d b) = bytes (openingAfter a d b)
+after (sendRound a d k s b) = bytes (roundAfter a d k s b)
+after (sendExchange a d b) = bytes (exchangeAfter a d b)
 
 -- ---- the statements
 

@@ -10,13 +10,12 @@ use Rattle.outcome.specs.Outcomes.{done}
 use Rattle.message.specs.Message.{Bytes}
 use Rattle.message.specs.Bits.{inverted}
 use Rattle.encoder.specs.Seals.{sealOutcome, interrogationAfter}
-use Rattle.transponder.specs.Receptions.{receptionOutcome}
+use Rattle.transponder.specs.Receptions.{Permitted, receptionOutcome}
 use Rattle.uplink_elm.specs.declared.Receiver.{Receiver}
 use Rattle.uplink_elm.specs.Segments.{isExtended, replyControl, segmentNumber, segment, isHeld, segmentAt}
 use Rattle.uplink_elm.specs.Receiving.{isWhole, progressOf, withProgress, receivingOutcome, receiverAfter, segmentsAfter}
 use Rattle.uplink_elm_meaning.specs.Running.{Call, State, fresh, afterAll}
 use Rattle.conformance.specs.Bursts.{Burst}
-use Rattle.conformance.specs.Antennas.{Permitted}
 
 -- The message is an interrogation of format 24 with this RC, this NC and these bytes as its segment, which the interrogation seal
 -- for the address, not refused, left so.

@@ -1,4 +1,4 @@
--- A sealed message: its length, its field, its parity field and its number.
+-- A sealed message: its length, its field, its parity field, its number, its remainder and the address read from it.
 use mathlib.Core.Path.{_≡_, refl, sym, ap, ap₂, _∙_, subst}
 use mathlib.Core.List.{List, [], _∷_, _++_}
 use Prim.Native.Nat.{ℕ, zero, suc, _+_, _-_, _*_, _/_, _%_, _^_, _<_, _≤_}
@@ -7,11 +7,11 @@ use lib.Dec.{lit<}
 use lib.Bits.{bitXor, xor-lt}
 use lib.ListN.{length, getD, length-append, take-append-drop, List·getD-append}
 use lib.Seq.{take-at, drop-at}
-use Rattle.division.specs.Division.{parity, overlay}
+use Rattle.division.specs.Division.{remainder, parity, overlay, addressRead}
 use Rattle.message.specs.Message.{number, Bytes, field, parityField}
 use Rattle.outcome.specs.Outcomes.{done}
 use Rattle.outcome.proofs.Laws.{left-of}
-use Rattle.division.proofs.Laws.{parity-lt}
+use Rattle.division.proofs.Laws.{xor-cancel, message-remainder, parity-lt, addressRead-remainder, overlay-lt, read-overlay}
 use Rattle.message.proofs.Laws.{number-three, number-append, number-message, number-injective, field-is, parityField-is, field-length, parityField-lt, bytes-take, bytes-append}
 use Rattle.encoder.specs.Seals.{wordBytes, withParity, replyParity, interrogationParity, replySeal, interrogationSeal, sealOutcome, replyAfter, interrogationAfter}
 
@@ -108,3 +108,22 @@ reply-after m w e = left-of _ _ m (replySeal m w) e
 pub interrogation-after : (m : List ℕ) (a : ℕ) → sealOutcome m a ≡ done → interrogationAfter m a ≡ interrogationSeal m a
 unfolding interrogationAfter
 interrogation-after m a e = left-of _ _ m (interrogationSeal m a) e
+
+-- an interrogation's seal goes by its field
+pub seal-by-field : (m k : List ℕ) (a : ℕ) → field m ≡ field k → interrogationSeal m a ≡ interrogationSeal k a
+unfolding interrogationSeal withParity
+seal-by-field m k a e = ap (λ (f : List ℕ). f ++ wordBytes (interrogationParity f a)) e
+
+-- ---- what is read from a seal
+
+pub remainder-sealed : (m : List ℕ) (s : ℕ) → 3 ≤ length m → s < 2 ^ 24 → remainder (number (withParity m (bitXor (parity (number (field m))) s))) ≡ s
+remainder-sealed m s h hs =
+    ap remainder (sealed-number m (bitXor (parity (number (field m))) s) h (reply-lt m s hs))
+    ∙ message-remainder (number (field m)) (bitXor (parity (number (field m))) s) (reply-lt m s hs)
+    ∙ xor-cancel (parity (number (field m))) s
+
+pub sealed-read : (m : List ℕ) (a : ℕ) → 3 ≤ length m → a < 2 ^ 24 → addressRead (number (interrogationSeal m a)) ≡ a
+sealed-read m a h ha =
+    ap (λ (l : List ℕ). addressRead (number l)) (interrogation-is m a)
+    ∙ addressRead-remainder (number (withParity m (bitXor (parity (number (field m))) (overlay a))))
+    ∙ ap addressRead (remainder-sealed m (overlay a) h (overlay-lt a)) ∙ read-overlay a ha

@@ -40,6 +40,10 @@ message-length-ge n e = cases (message-length n e)
     cases (inl p) = omega arith
     cases (inr p) = omega arith
 
+pub long-length : (n : ℕ) → n ≡ 14 → isMessageLength n ≡ true
+unfolding isMessageLength
+long-length n e = ap isMessageLength e
+
 pub field-length-le : (n : ℕ) → isFieldLength n ≡ true → n ≤ 11
 field-length-le n e = cases (field-sizes n e)
   where

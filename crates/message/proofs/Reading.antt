@@ -34,3 +34,8 @@ long-by-first-bit m e f = by (eqb (length m) 14) refl (sym f ∙ eqb-true (getD 
     by : (t : Bool) → eqb (length m) 14 ≡ t → 1 ≡ bitOf t → length m ≡ 14
     by true g h = eqb-true (length m) 14 g
     by false g h = absurd (omega arith)
+
+-- and a long message with a first bit 1 agrees
+pub agrees-long : (m : List ℕ) → length m ≡ 14 → getD m 0 0 / 2 ^ 7 ≡ 1 → firstBitAgrees m ≡ true
+unfolding firstBitAgrees firstBit
+agrees-long m l f = ap₂ (λ (b k : ℕ). eqb b (bitOf (eqb k 14))) f l

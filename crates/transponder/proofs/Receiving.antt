@@ -5,7 +5,8 @@ use mathlib.Core.Path.{_≡_, refl, sym, ap, ap₂, _∙_}
 use mathlib.Core.Bool.{Bool, true, false, not, cond, _&&_, _||_}
 use mathlib.Core.Logic.{_⊎_, inl, inr}
 use mathlib.Core.List.{List}
-use Prim.Native.Nat.{ℕ, _<_, _^_}
+use Prim.Native.Nat.{ℕ, _<_, _≤_, _^_}
+use native.Mathlib.Omega.{arith}
 use lib.Dec.{eqb}
 use lib.ListN.{length, getD}
 use borrow.Author.Tests.{eq-eqb, ne-eqb, eqb-true, eqb-false, not-true}
@@ -15,8 +16,8 @@ use Rattle.outcome.specs.Refusals.{wrongLength, wordTooLarge, firstBitContradic
 use Rattle.outcome.proofs.Laws.{never, or-cases, or-second, refused, passed, unless-unrefused}
 use Rattle.division.specs.Division.{addressRead}
 use Rattle.message.specs.Message.{number, formatNumber, isMessageLength, firstBitAgrees, isWord}
-use Rattle.message.proofs.Laws.{word-lt}
-use Rattle.transponder.specs.Receptions.{everyone, allCallFormat, isBroadcastFormat, receptionOf, isReserved, receptionOutcome, said}
+use Rattle.message.proofs.Laws.{word-lt, lt-word}
+use Rattle.transponder.specs.Receptions.{everyone, allCallFormat, isBroadcastFormat, receptionOf, isReserved, Permitted, receptionOutcome, said}
 use Rattle.transponder.specs.declared.Reception.{Reception}
 use Rattle.transponder.specs.declared.Reception.the-variants.{Own, AllCall, Broadcast, NotOurs, Refused}
 
@@ -149,6 +150,13 @@ module _ (own : ℕ) (m : List ℕ) where
   read o e f g h p = whole o e f g (passed (not (isReserved own)) ownAddressReserved o _ (ap not h) p)
 
 -- ---- a call that no row refuses
+
+pub own-of-read : (own : ℕ) (m : List ℕ) → Permitted own → isMessageLength (length m) ≡ true → firstBitAgrees m ≡ true
+    → addressRead (number m) ≡ own → receptionOutcome own m ≡ said Own
+unfolding Permitted isReserved
+own-of-read own m h long first e =
+    sym (read own m (said Own) long (lt-word own (omega (arith, h .0))) first (ap₂ _||_ (ne-eqb own 0 (h .1)) (ne-eqb own everyone (h .2)))
+    (ap said (is-own own (addressRead (number m)) (formatNumber m) e)))
 
 pub record Admitted (own : ℕ) (m : List ℕ) : Type 0 where
   pub own-lt : own < 2 ^ 24

@@ -1,6 +1,7 @@
 -- What a transponder makes of an interrogation (document 01, 'Transponder'; ATC-117, 3.1), with the broadcasts of document
 -- 02, Point 2.
-use Prim.Native.Nat.{ℕ}
+use Prim.Native.Nat.{ℕ, _≤_}
+use mathlib.Core.Path.{_≡_}
 use mathlib.Core.List.{List, [], _∷_}
 use mathlib.Core.Bool.{Bool, cond, not, _&&_, _||_}
 use lib.Dec.{eqb}
@@ -45,6 +46,10 @@ receptionOf own address format =
 -- The own address is neither 000000 nor FFFFFF (row 6).
 unfoldable pub isReserved : ℕ → Bool
 isReserved own = eqb own 0 || eqb own everyone
+
+-- An own address to which neither row 3 nor row 6 applies.
+unfoldable pub Permitted : ℕ → Type 0
+Permitted own = (own ≤ 0xFFFFFF) × (own ≡ 0x000000 → ⊥) × (own ≡ 0xFFFFFF → ⊥)
 
 -- What the transponder answers: rows 1, 3, 5 and 6 of the refusals, or what it makes of the address read.
 unfoldable pub receptionOutcome : ℕ → List ℕ → Outcome

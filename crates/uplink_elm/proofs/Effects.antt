@@ -2,7 +2,7 @@
 use mathlib.Core.Path.{_≡_, refl, sym, ap, _∙_}
 use mathlib.Core.Bool.{Bool, true, false, cond}
 use mathlib.Core.List.{List}
-use Prim.Native.Nat.{ℕ, zero, suc, _/_, _%_, _^_, _<_, _≤_}
+use Prim.Native.Nat.{ℕ, zero, suc, _+_, _*_, _/_, _%_, _^_, _<_, _≤_}
 use native.Mathlib.Omega.{arith}
 use lib.Dec.{eqb, leb}
 use lib.ListN.{length, getD}
@@ -176,6 +176,11 @@ parts-by-first m k e = (
   ap (λ (b : ℕ). b / 2 ^ 4 % 2 ^ 2) e,
   ap (λ (b : ℕ). b % 2 ^ 4) e,
 )
+
+pub parts-of : (m : List ℕ) (c n : ℕ) → getD m 0 0 ≡ 192 + 16 * c + n → c < 4 → n < 16
+    → (isExtended m ≡ true) × (replyControl m ≡ c) × (segmentNumber m ≡ n)
+unfolding isExtended replyControl segmentNumber
+parts-of m c n e hc hn = (eq-eqb (getD m 0 0 / 2 ^ 6) 3 (omega arith), omega arith, omega arith)
 
 nothing-stored : (next : Receiver) → Stored next ≡ Nothing → ⊥
 nothing-stored next q = never refl (ap stores q)

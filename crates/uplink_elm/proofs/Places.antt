@@ -17,12 +17,13 @@ use Rattle.uplink_elm.specs.Segments.{segment, segmentAt, stored}
 
 -- ---- the copy of a segment
 
-copied : (k : ℕ) (src dst ys : List ℕ) → k ≡ length src → length dst ≤ length src → ys ≡ take k src ++ drop k dst → ys ≡ src
+-- what comes back from `bytes::copy` where the two have one length
+pub copied : (k : ℕ) (src dst ys : List ℕ) → k ≡ length src → length dst ≤ length src → ys ≡ take k src ++ drop k dst → ys ≡ src
 copied k src dst ys e h f =
     f ∙ ap (λ (n : ℕ). take n src ++ drop n dst) e
     ∙ ap₂ _++_ (take-length src) (drop-of-length-le dst h) ∙ append-nil src
 
-part-length : (a n : ℕ) (l : List ℕ) → a + n ≤ length l → length (take n (drop a l)) ≡ n
+pub part-length : (a n : ℕ) (l : List ℕ) → a + n ≤ length l → length (take n (drop a l)) ≡ n
 part-length a n l h = length-take-le n (drop a l) (omega (arith, length-drop a l))
 
 -- ten bytes of the message, copied to the ten bytes from place n on
@@ -97,11 +98,22 @@ module _ (n : ℕ) (b s : List ℕ) (ten : length b ≡ 10) (fits : n * 10 + 10 
       entry : (x : List ℕ) (i : ℕ) → i < 10 → getD (take 10 (drop (k * 10) x)) i 0 ≡ getD x (k * 10 + i) 0
       entry x i g = getD-take 10 (drop (k * 10) x) i 0 g ∙ getD-drop (k * 10) x i 0
 
+pub segment-at : (s : List ℕ) (n : ℕ) → segmentAt s n ≡ take 10 (drop (n * 10) s)
+unfolding segmentAt
+segment-at s n = refl
+
+pub segment-at-length : (s : List ℕ) (n : ℕ) → n * 10 + 10 ≤ length s → length (segmentAt s n) ≡ 10
+segment-at-length s n h = ap length (segment-at s n) ∙ part-length (n * 10) 10 s h
+
 -- ---- the segment of a message
 
 pub segment-length : (m : List ℕ) → length m ≡ 14 → length (segment m) ≡ 10
 unfolding segment
 segment-length m h = part-length 1 10 m (omega arith)
+
+pub segment-of : (b : ℕ) (s rest : List ℕ) → length s ≡ 10 → segment (b ∷ (s ++ rest)) ≡ s
+unfolding segment
+segment-of b s rest h = take-at s rest 10 h
 
 -- it goes by the field
 pub segment-by-field : (m k : List ℕ) → length m ≡ 14 → length k ≡ 14 → field m ≡ field k → segment m ≡ segment k

@@ -64,14 +64,14 @@ pub record Good (t : State) (s : Machine) : Type 0 where
   pub narrow : t .receiver .held < 2 ^ 16
 
 module _ (t : State) (s : Machine) (g : Good t s) where
-  same-numbers : (k : ℕ) → isHeld (t .receiver .held) k ≡ holds s k
+  pub same-numbers : (k : ℕ) → isHeld (t .receiver .held) k ≡ holds s k
   same-numbers k = told (isHeld (t .receiver .held) k) ∙ ap isSome (g .same .2 k)
     where
       told : (u : Bool) → u ≡ isSome (cond u (some (segmentAt (t .places) k)) none)
       told true = refl
       told false = refl
 
-  same-progress : progressOf (t .receiver) ≡ progress s
+  pub same-progress : progressOf (t .receiver) ≡ progress s
   unfolding isWhole whole acknowledgement
   same-progress =
       ap₂ (λ (a : ℕ) (w : Bool). of-both a w)
@@ -250,16 +250,33 @@ step-of-own own m c n b s e f h i j =
     ap (λ (t : Bool). resulting (cond t (does (replyControl m) (segmentNumber m) (segment m) s) (becomes s)) s) (ap₂ _&&_ (ap isOwn e) f)
     ∙ ap (λ (x : ℕ). resulting (does x (segmentNumber m) (segment m) s) s) h ∙ ap₂ (λ (x : ℕ) (y : List ℕ). resulting (does c x y s) s) i j
 
--- what RC 0 and RC 1 make of it, where no row refuses
+-- what each RC makes of it, where no row refuses
 pub opened-with : (n : ℕ) (b : List ℕ) (s : Machine) → (n ≡ 0 → ⊥)
     → resulting (does 0 n b s) s ≡ record { opened = true; last = n; segments = storing n b (λ k. none) }
 unfolding does
 opened-with n b s h =
     ap (λ (t : Bool). resulting (cond t (refuses 10) (becomes (record { opened = true; last = n; segments = storing n b (λ k. none) }))) s) (ne-eqb n 0 h)
 
+pub adds-to : (n : ℕ) (b : List ℕ) (s : Machine) → s .opened ≡ true → n ≤ s .last
+    → does 1 n b s ≡ becomes (record { opened = true; last = s .last; segments = storing n b (s .segments) })
+unfolding does
+adds-to n b s e h =
+    ap₂ (λ (t u : Bool). cond t (cond u (becomes (record { opened = true; last = s .last; segments = storing n b (s .segments) })) (refuses 11)) (refuses 10))
+    e (le-leb n (s .last) h)
+
 pub added-to : (n : ℕ) (b : List ℕ) (s : Machine) → s .opened ≡ true → n ≤ s .last
     → resulting (does 1 n b s) s ≡ record { opened = true; last = s .last; segments = storing n b (s .segments) }
+added-to n b s e h = ap (λ (p : Step). resulting p s) (adds-to n b s e h)
+
+-- RC 2 stores as RC 1 does
+pub asking-adds : (n : ℕ) (b : List ℕ) (s : Machine) → does 2 n b s ≡ does 1 n b s
 unfolding does
-added-to n b s e h =
-    ap₂ (λ (t u : Bool). resulting (cond t (cond u (becomes (record { opened = true; last = s .last; segments = storing n b (s .segments) })) (refuses 11)) (refuses 10)) s)
-    e (le-leb n (s .last) h)
+asking-adds n b s = refl
+
+-- what such a call shows
+pub shown-of-own : (own : ℕ) (m : List ℕ) (s : Machine) → receptionOutcome own m ≡ said Own → isExtended m ≡ true
+    → machineOutcome own m s ≡ showing (does (replyControl m) (segmentNumber m) (segment m) s) (said Own)
+unfolding machineOutcome step
+shown-of-own own m s e f =
+    ap (λ (t : Bool). showing (cond t (does (replyControl m) (segmentNumber m) (segment m) s) (becomes s)) (receptionOutcome own m)) (ap₂ _&&_ (ap isOwn e) f)
+    ∙ ap (showing (does (replyControl m) (segmentNumber m) (segment m) s)) e
