@@ -11,7 +11,7 @@ use crate::{
     altitude_lines, antennas_lines, calls, calls_kinds, calls_lines, fast_calls, fast_sift,
     hit_replies, selftest,
 };
-use crate::{elm, elm_kinds, elm_lines};
+use crate::{elm, elm_kinds, elm_lines, sender_lines};
 use crate::{roster, roster_kinds, roster_lines, shift_report, sift, sift_kinds, sift_lines};
 use std::path::Path;
 use std::time::Instant;
@@ -96,7 +96,7 @@ const ROSTER: Subject = Subject {
 const ELM: Subject = Subject {
     name: "elm",
     any_line: elm_lines::any_line,
-    once: |_| Vec::new(),
+    once: sender_lines::once,
     round: elm_lines::round,
     groups: elm_kinds::groups,
     expected: |tally, input, aims| {

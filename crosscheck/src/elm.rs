@@ -1,5 +1,5 @@
-//! What `elm` has to print for a whole input (document 02, Point 7): one receiver of
-//! extended length messages, and a line a call.
+//! What `elm` has to print for a whole input (document 02, Points 7 and 10): one receiver
+//! of extended length messages, the sender's calls, and a line a call.
 //!
 //! The receiver is the plain machine of Point 7: the last number of the message that
 //! is opened, if one is, and the segments held, by their numbers.
@@ -7,17 +7,33 @@
 use crate::calls::MOST_STRING;
 use crate::poly::{bits_of_bytes, bytes_of_bits, word_of_bits};
 use crate::rules::{transponder, Heard};
+use crate::sender::{send, Call};
 use crate::text::*;
 use std::collections::BTreeMap;
 
 /// The number of places for segments.
 pub const PLACES: u32 = 16;
 
+/// The most bytes of a message to be sent, and of the buffer that is lent; each byte of that
+/// buffer before the call.
+pub const MOST_DATA: usize = 180;
+pub const MOST_ROOM: u32 = 240;
+const FILLED: u8 = 0x55;
+
 /// A well-formed line.
 #[derive(Debug, Clone, PartialEq, Eq)]
 pub enum Line {
     Fresh,
     Receive(u32, Vec<u8>),
+    Send { call: Call, address: u32, data: Vec<u8>, room: usize },
+}
+
+/// A line of the sender; none if a column is malformed.
+fn sending(call: Call, address: &[u8], data: &[u8], room: &[u8]) -> Option<Line> {
+    let address = hex_number(address, 1, 8)?;
+    let data = if data == b"-" { Vec::new() } else { hex_bytes(data, MOST_DATA)? };
+    let room = decimal_number(room, 3).filter(|room| *room <= MOST_ROOM)?;
+    Some(Line::Send { call, address, data, room: room as usize })
 }
 
 /// Reads a line without its line feed; none if it is malformed.
@@ -29,6 +45,13 @@ pub fn read(line: &[u8]) -> Option<Line> {
         [b"receive", own, message] => {
             Line::Receive(hex_number(own, 1, 8)?, hex_bytes(message, MOST_STRING)?)
         }
+        [b"open", address, data, room] => sending(Call::Open, address, data, room)?,
+        [b"round", address, data, bits, s, room] => {
+            let acknowledged = hex_number(bits, 4, 4)?;
+            let s = decimal_number(s, 3)? as usize;
+            sending(Call::Round { acknowledged, s }, address, data, room)?
+        }
+        [b"exchange", address, data, room] => sending(Call::Exchange, address, data, room)?,
         _ => return None,
     })
 }
@@ -66,6 +89,10 @@ pub enum Reply {
     Fresh,
     Heard(Heard, u32, bool),
     Refused(u8),
+    /// The number of transmissions, and the buffer after the call.
+    Sent(usize, Vec<u8>),
+    /// The row that refused the sender's call, and the buffer after it.
+    Unsent(u8, Vec<u8>),
 }
 
 impl Reply {
@@ -76,7 +103,10 @@ impl Reply {
             Reply::Heard(Heard::AllCall, ..) => "allcall",
             Reply::Heard(Heard::Broadcast, ..) => "broadcast",
             Reply::Heard(Heard::NotOurs(_), ..) => "notours",
-            Reply::Heard(Heard::Refused(_), ..) | Reply::Refused(_) => "refused",
+            Reply::Heard(Heard::Refused(_), ..) | Reply::Refused(_) | Reply::Unsent(..) => {
+                "refused"
+            }
+            Reply::Sent(..) => "sent",
         }
     }
 }
@@ -132,6 +162,10 @@ impl Machine {
                 Reply::Fresh
             }
             Line::Receive(own, message) => self.receive(*own, message),
+            Line::Send { call, address, data, room } => match send(*call, *address, data, *room) {
+                Ok(sent) => Reply::Sent(sent.len(), sent.concat()),
+                Err(row) => Reply::Unsent(row, vec![FILLED; *room]),
+            },
         }
     }
 }
@@ -147,7 +181,8 @@ pub struct Met {
 /// The output line for what came of line `number`; the receiver is the one after it.
 fn print(number: usize, reply: Option<&Reply>, machine: &Machine) -> String {
     let value = match reply {
-        Some(Reply::Refused(row)) => row.to_string(),
+        Some(Reply::Refused(row) | Reply::Unsent(row, _)) => row.to_string(),
+        Some(Reply::Sent(count, _)) => count.to_string(),
         Some(Reply::Heard(Heard::NotOurs(address), ..)) => format!("{address:06X}"),
         _ => "-".to_string(),
     };
@@ -157,9 +192,12 @@ fn print(number: usize, reply: Option<&Reply>, machine: &Machine) -> String {
         }
         _ => "- -".to_string(),
     };
-    let held: Vec<u8> = machine.held.values().flatten().copied().collect();
+    let shown: Vec<u8> = match reply {
+        Some(Reply::Sent(_, buffer) | Reply::Unsent(_, buffer)) => buffer.clone(),
+        _ => machine.held.values().flatten().copied().collect(),
+    };
     let word = reply.map_or("malformed", Reply::word);
-    format!("{number} {word} {value} {progress} {}\n", hex_or_dash(&held))
+    format!("{number} {word} {value} {progress} {}\n", hex_or_dash(&shown))
 }
 
 /// The whole output for a whole input; `met` is shown what came of each line.
@@ -246,6 +284,31 @@ mod tests {
             format!("2 notours 4840D6 4000 no {held}"),
             format!("3 refused 1 - - {held}"),
             format!("4 malformed - - - {held}"),
+        ];
+        assert_eq!(printed(&lines), expected);
+    }
+
+    /// Two segments sent to the receiver of the same program.
+    #[test]
+    fn sent_and_received() {
+        let (a, b) = ("AA".repeat(10), "BB".repeat(10));
+        let lines = [
+            format!("open {OWN:X} {a}{b} 14\n"),
+            line(0, 1, 0xBB),
+            format!("round {OWN:X} {a}{b} 0000 3 42\n"),
+            format!("round {OWN:X} {a}{b} C000 3 0\n"),
+            format!("round {OWN:X} {a}{b} C000 3 2\n"),
+            format!("exchange 1000000 {a}{b} 0\n"),
+        ];
+        let sealed = |rc, nc, byte| line(rc, nc, byte)[15..43].to_string();
+        let (first, second) = (sealed(1, 0, 0xAA), sealed(1, 1, 0xBB));
+        let expected = [
+            format!("1 sent 1 - - {}", sealed(0, 1, 0xBB)),
+            format!("2 own - 4000 no {b}"),
+            format!("3 sent 3 - - {first}{second}{first}"),
+            "4 sent 0 - - -".to_string(),
+            "5 refused 12 - - 5555".to_string(),
+            "6 refused 3 - - -".to_string(),
         ];
         assert_eq!(printed(&lines), expected);
     }

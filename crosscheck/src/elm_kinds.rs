@@ -4,6 +4,7 @@ use crate::blocks::{Aim, INPUTS, MALFORMED};
 use crate::elm::{segment, Line, Machine, Met, Reply, Segment, PLACES};
 use crate::elm_lines::{defects, HIT, WRONG_FORMS};
 use crate::rules::{format_number, Heard};
+use crate::sender_kinds;
 use crate::sensor::windows;
 use crate::tally::{Group, Tally};
 
@@ -18,7 +19,7 @@ const AGAIN: &str = "a number heard again";
 const UNCHANGED: &str = "nothing changed, with segments held";
 const LENGTHS: &str = "messages by their length in bytes";
 
-const ALL_ANSWERS: [&str; 12] = [
+const ALL_ANSWERS: [&str; 14] = [
     "fresh",
     "own",
     "allcall",
@@ -31,6 +32,8 @@ const ALL_ANSWERS: [&str; 12] = [
     "refused 6",
     "refused 10",
     "refused 11",
+    "refused 12",
+    "sent",
 ];
 
 const ALL_AGAIN: [&str; 5] = [
@@ -77,7 +80,7 @@ pub fn groups(special: &[&'static str]) -> Vec<Group> {
     let forms = WRONG_FORMS.iter().map(|form| form.escape_debug().to_string());
     let defects = defects().into_iter().map(|defect| defect.0.to_string());
     let digits = ["65 digits", "66 digits"].map(str::to_string);
-    vec![
+    let own = vec![
         Group::each(ANSWERS, ALL_ANSWERS),
         Group::each(REFUSED_HELD, rows),
         Group::summed(CONTROLS, controls()),
@@ -89,9 +92,10 @@ pub fn groups(special: &[&'static str]) -> Vec<Group> {
         Group::each(UNCHANGED, ALL_UNCHANGED),
         Group::summed(HIT, windows(112)),
         Group::summed(LENGTHS, 0..=32),
-        Group::each(MALFORMED, defects.chain(forms).chain(digits)),
+        Group::each(MALFORMED, defects.chain(forms).chain(digits).chain(sender_kinds::malformed())),
         Group::each(INPUTS, special),
-    ]
+    ];
+    own.into_iter().chain(sender_kinds::groups()).collect()
 }
 
 /// Counts a line under its kinds.
@@ -107,7 +111,8 @@ pub fn count(tally: &mut Tally, met: Option<&Met>, aim: Option<&Aim>) {
     let has = !before.held.is_empty();
     if let Some(aim) = aim {
         let as_wanted = aim.answer.is_none_or(|wanted| wanted == answer);
-        if as_wanted && (aim.group != HIT || has && before == after) {
+        let hit = aim.group != HIT || has && before == after;
+        if as_wanted && hit && sender_kinds::ended(aim.group, after) {
             tally.add(aim.group, &aim.kind);
         }
     }
@@ -118,7 +123,11 @@ pub fn count(tally: &mut Tally, met: Option<&Met>, aim: Option<&Aim>) {
                 tally.add(REFUSED_HELD, row);
             }
         }
+        Reply::Unsent(row, _) => tally.add(ANSWERS, format!("refused {row}")),
         _ => tally.add(ANSWERS, answer),
+    }
+    if let Line::Send { call, address, data, room } = line {
+        sender_kinds::count(tally, *call, *address, data, *room, reply);
     }
     let Line::Receive(_, message) = line else {
         return;

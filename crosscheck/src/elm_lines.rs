@@ -9,6 +9,7 @@ use crate::elm::PLACES;
 use crate::poly::{bits_of_bytes, bytes_of_bits, DEGREE};
 use crate::random::Random;
 use crate::rules::{interrogation_seal, HIGHEST};
+use crate::sender_lines;
 use crate::sensor::{invert, windows};
 
 /// The group of segments that a burst has hit on their way to an opened receiver.
@@ -195,6 +196,7 @@ pub fn any_line(random: &mut Random) -> Vec<u8> {
     let own = 0x48_40D6;
     match random.below(10) {
         0 => b"fresh".to_vec(),
+        9 => sender_lines::any_line(random),
         1 => {
             let message = interrogation(random, 14, own);
             received(random, own, &message).text
@@ -271,6 +273,7 @@ pub fn round(random: &mut Random) -> Vec<Made> {
     lines.extend(formats(random));
     lines.extend(all_lengths(random));
     lines.extend(malformed(random));
+    lines.extend(sender_lines::round(random));
     for _ in 0..40 {
         lines.push(Made::plain(any_line(random)));
     }

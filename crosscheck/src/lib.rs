@@ -16,6 +16,7 @@
 //! - `altitude`: altitude codes, read and written;
 //! - `antennas`: the two-antenna transponder;
 //! - `text`: what both programs share of their line formats;
+//! - `sender`: the sending end of extended length messages, and the game against an interferer;
 //! - `sift`, `calls`, `roster`, `elm`: what each program prints for a whole input;
 //! - `shift_report`: the same of `tally`, from `sift`'s answer to each line;
 //! - `notices`: which changes of few bits, and of two bursts, leave no remainder;
@@ -26,9 +27,10 @@
 //! - `defects`: ways to spoil a well-formed line;
 //! - `blocks`: lines packed into inputs, and inputs of special sizes;
 //! - `sift_lines`, `calls_lines`, `sensor_lines`, `altitude_lines`,
-//!   `antennas_lines`, `roster_lines`, `elm_lines`: the makers of lines;
+//!   `antennas_lines`, `roster_lines`, `elm_lines`, `sender_lines`: the makers of lines;
 //! - `tally`, `sift_kinds`, `calls_kinds`, `sensor_kinds`, `altitude_kinds`,
-//!   `antennas_kinds`, `roster_kinds`, `elm_kinds`: what was tried, and what must be;
+//!   `antennas_kinds`, `roster_kinds`, `elm_kinds`, `sender_kinds`: what was tried, and what
+//!   must be;
 //! - `run`: a program as a child process, and the first difference;
 //! - `hit_replies`: sealed replies that a burst has hit, and the built `sift` held
 //!   to what was sent;
@@ -75,6 +77,9 @@ pub mod roster_lines;
 pub mod rules;
 pub mod run;
 pub mod selftest;
+pub mod sender;
+pub mod sender_kinds;
+pub mod sender_lines;
 pub mod sensor;
 pub mod sensor_kinds;
 pub mod sensor_lines;

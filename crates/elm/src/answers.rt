@@ -19,7 +19,7 @@ fn put_not_ours(address: u32, p: Progress, out: &mut [u8], taken: usize) -> usiz
     put_progress(b"", p, out, next)
 }
 
-fn put_refusal(n: u32, out: &mut [u8], taken: usize) -> usize {
+pub(crate) fn put_refusal(n: u32, out: &mut [u8], taken: usize) -> usize {
     let named = text::put_bytes(out, taken, b" refused ");
     let next = text::put_decimal(out, named, n);
     text::put_bytes(out, next, b" - -")

@@ -1,6 +1,9 @@
 // A line by its name: what it does to the receiver, and the columns of its answer.
 use crate::answers::put_held;
 use crate::receiving;
+use crate::sending;
+use crate::sending::Kind;
+use crate::sending::Sent;
 use reading::after;
 use reading::find;
 use uplink_elm::Receiver;
@@ -29,7 +32,31 @@ pub(crate) fn answer(
     if check::same(&line[0..end], b"receive") {
         return receiving::receive(after(line, end), receiver, segments, out, taken);
     }
+    let sent = send(line, end, out, taken);
+    if sent.formed {
+        return Answered {
+            receiver: receiver,
+            taken: sent.taken,
+        };
+    }
     malformed(receiver, segments, out, taken)
+}
+
+// A line whose name ends there, if it is the sender's.
+fn send(line: &[u8], end: usize, out: &mut [u8], taken: usize) -> Sent {
+    if end <= line.len() {
+        let name = &line[0..end];
+        if check::same(name, b"open") {
+            return sending::send(Kind::Opening, after(line, end), out, taken);
+        }
+        if check::same(name, b"round") {
+            return sending::send(Kind::Round, after(line, end), out, taken);
+        }
+        if check::same(name, b"exchange") {
+            return sending::send(Kind::Exchange, after(line, end), out, taken);
+        }
+    }
+    sending::unformed(taken)
 }
 
 pub(crate) fn malformed(

@@ -1,11 +1,15 @@
-// One receiver of uplink extended length messages from outside, a line a call, so that another implementation can be compared
-// with the built code. Input lines, parted by one space:
+// Both ends of uplink extended length messages from outside, a line a call, with one receiver, so that another implementation can be
+// compared with the built code. Input lines, parted by one space:
 //     fresh, receive OWN MESSAGE
-// with OWN as 1 to 8 capital hexadecimal digits and MESSAGE as an even number of them, at most 64, `-` for no bytes.
+//     open ADDRESS DATA BYTES, round ADDRESS DATA ACK S BYTES, exchange ADDRESS DATA BYTES
+// with OWN and ADDRESS as 1 to 8 capital hexadecimal digits, MESSAGE and DATA as an even number of them, at most 64 and 360, `-` for
+// no bytes, ACK as four of them, S and BYTES as 1 to 3 decimal digits. A call of the second line is lent a buffer of BYTES bytes, at
+// most 240, each 55.
 // Output lines have six columns: the line number from 1; the answer; the address read, or the number of the refusal; the
 // acknowledgement in four hexadecimal digits; `yes` or `no` for a message that is whole; and the bytes of the segments held
-// after the line, in the order of their numbers. `-` fills what an answer lacks. An input above 65,536 bytes is too long, and
-// that is all that is said of it.
+// after the line, in the order of their numbers. `-` fills what an answer lacks. The sender's calls are answered `sent` with the number
+// of transmissions, or `refused`, and the last column is the buffer after the call. An input above 65,536 bytes is too long, and that is
+// all that is said of it.
 //
 // A program here has no exit status: what went wrong is said on standard error, and nothing else is. bin/elm ends with 1
 // where something was said.
@@ -17,6 +21,7 @@ mod answers;
 mod arguments;
 mod lines;
 mod receiving;
+mod sending;
 
 use reading::find;
 use uplink_elm::Receiver;
@@ -138,8 +143,7 @@ struct Room {
 }
 
 // Writes the output buffer where a line more might not find room, and says what is taken then. The buffer has 65,536
-// bytes; the longest line has 347: a number of five digits, ` notours FFFFFF FFFF yes ` and 160 bytes in 320 digits with a line
-// feed.
+// bytes; the longest line has 502: a number of five digits, ` refused 12 - - ` and 240 bytes in 480 digits with a line feed.
 fn flushed(out: &[u8], taken: usize, written: bool) -> Room {
     if 65000 < taken {
         Room {
