@@ -38,6 +38,6 @@ pub use borrow.Table.Reads.{as-is}
 pub use borrow.Table.Row.{Cx, Row, sInt, sBool, sPtr, sUnit, lease, dead}
 pub use borrow.Table.Rows.{any-gone, whole, sc-here, sslice}
 pub use borrow.Table.Typed.{Mo, Outs, withNext, inBlock₀, inLoop₀}
-pub use Rattle.rollcall.proofs.Types.{Rec, U16, Sgt, Spt, Pln, recOne, recCopy, sgtOne, sgtCopy, sptOne, sptCopy, plnOne, plnCopy}
+pub use Rattle.rollcall.proofs.Types.{Rec, recSize, U16, Sgt, Spt, Pln, recOne, recCopy, sgtOne, sgtCopy, sptOne, sptCopy, plnOne, plnCopy}
 pub use Rattle.walks.proofs.Walk.{Code, Me, Sig, Knows, gone, used, held, mutTo, immTo, n64, flag, mutS, immS, mutA, owedA, leftA, ptrA, owedS, ptrS, sharedA, keeps, _⟫_, meet, last, free, freeing, branch, blocks, loops, leaves, begins, relends, gathers, reshares, gathersS, unshares, does, silently, before, atMost, ends, backs, forgets, calls, puts, num, lit, count, sets, less, plus, times, points, stores, loads, loadsM, copies, unit, skips, returns}
 pub use Rattle.walks.proofs.Total.{Walked, rest, Asked, homes, known, by-walk}

@@ -28,6 +28,10 @@ U16 = rtF (fInt w16)
 abbrev pub Rec : RattleType
 Rec = R.the-row
 
+-- its bytes
+abbrev pub recSize : ℕ
+recSize = 32
+
 abbrev pub recOne : One Rec
 recOne = refl
 

@@ -12,6 +12,7 @@ mod table;
 
 pub use rollcall_plans::Reply;
 pub use rollcall_plans::Rolled;
+pub use rollcall_table::Grade;
 pub use rollcall_table::Reading;
 pub use rollcall_table::Record;
 pub use rollcall_table::Sighting;
@@ -45,7 +46,7 @@ pub fn remove(records: &mut [Record], places: &mut [u16], count: usize, address:
     rollcall_plans::reply_of(plan)
 }
 
-// Replaces the altitude and the time of a live address, or gives a new one a place.
+// Gives a new address a place. The record of a live one is replaced where the reply beats it, and remains otherwise.
 pub fn add_or_renew(records: &mut [Record], places: &mut [u16], count: usize, s: Sighting) -> Reply
     ensures { λ r. ⌜ (said (r .answer) ≡ addOutcome (now (records .entry)) (now (places .entry)) count s) × (r .count ≡ addCount (now (records .entry)) (now (places .entry)) count s) × (now (records .exit) ≡ addRecords (now (records .entry)) (now (places .entry)) count s) × (now (places .exit) ≡ addPlaces (now (records .entry)) (now (places .entry)) count s) ⌝ }
 {

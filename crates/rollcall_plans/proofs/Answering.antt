@@ -15,13 +15,14 @@ use Rattle.message.specs.Message.{isWord}
 use Rattle.rollcall_table.specs.declared.Record.{Record}
 use Rattle.rollcall_table.specs.declared.Sighting.{Sighting}
 use Rattle.rollcall_plans.specs.declared.Rolled.{Rolled}
-use Rattle.rollcall_plans.specs.declared.Rolled.the-variants.{Cleared, Added, Refused}
+use Rattle.rollcall_plans.specs.declared.Rolled.the-variants.{Cleared, Added, Renewed, Held, Refused}
 use Rattle.rollcall_plans.specs.declared.Spot.{Spot}
 use Rattle.rollcall_plans.specs.declared.Plan.{Plan}
 use Rattle.rollcall_table.specs.Table.{largest, blank, recordAt, rightLengths, isSound, holder, freePlace, isIn, hasRoom, unmarked, unmarkedAll, recordOf, position}
-use Rattle.rollcall_plans.specs.Calls.{said, found, absent, kept, push, pull, opened, closed, clearOutcome, clearCount, clearRecords, findOutcome, removeOutcome, removeCount, removeRecords, removePlaces, addOutcome, addCount, addRecords, addPlaces}
+use Rattle.rollcall_plans.specs.Calls.{said, found, added, renewed, absent, held, kept, addAnswer, push, pull, opened, closed, clearOutcome, clearCount, clearRecords, findOutcome, removeOutcome, removeCount, removeRecords, removePlaces, addOutcome, addCount, addRecords, addPlaces}
 use Rattle.rollcall_plans.specs.Plans.{nowhereOf, spotAt, spotOf, foundBy, removalOf, additionOf, rearranged}
 use Rattle.rollcall_table.specs.Checks.{raisedOf}
+use Rattle.rollcall_table.specs.Standing.{recordBeats}
 use Rattle.rollcall_table.proofs.Laws.{below-count, parts, free-fewer}
 use Rattle.rollcall_plans.proofs.Moving.{open-end, close-end}
 
@@ -96,8 +97,9 @@ remove-right rs ps n a p e =
 
 -- ---- add or renew
 
-abbrev add4 : Bool → Bool → Bool → Bool → Outcome
-add4 w t i g = unless w 3 (unless t 8 (unless (i || g) 9 (cond i (answer 2 []) (answer 1 []))))
+-- the answer by the tests: w of the word, t of the table, i of the address, g of the room, b of the record held
+abbrev pub addBy : Bool → Bool → Bool → Bool → Bool → Outcome
+addBy w t i g b = unless w 3 (unless t 8 (addAnswer i g (not i || b)))
 
 -- what a sound table with a free place f gives
 pub record Room (rs : List Record) (ps : List ℕ) (n f : ℕ) : Type 0 where
@@ -120,11 +122,18 @@ entrance rs ps n k f r false e l room =
     subst (λ (b : Bool). Right (cond b (record { answer = Added; count = raisedOf n; place = f; entry = r; at = k; opened = raisedOf n; closed = k }) (record { answer = Refused 9; count = n; place = length rs; entry = blank; at = 0; opened = 0; closed = 0 })) rs ps (unless false 9 (answer 1 [])) n rs ps) (sym e)
     (idle rs ps (Refused 9) n)
 
+-- a live address: the reply beats the record held, or that one remains
+renewal : (rs : List Record) (ps : List ℕ) (n h : ℕ) (r : Record) (b : Bool)
+    → Right (cond b (record { answer = Renewed; count = n; place = h; entry = r; at = 0; opened = 0; closed = 0 }) (record { answer = Held; count = n; place = length rs; entry = blank; at = 0; opened = 0; closed = 0 })) rs ps (cond b renewed held)
+    (kept (cond b renewed held) n n) (kept (cond b renewed held) rs (cond b (set rs h r) rs)) (kept (cond b renewed held) ps ps)
+renewal rs ps n h r true = record { within = none-within ps; says = refl; counts = refl; records = refl; places = none-moved ps (h % 65536) }
+renewal rs ps n h r false = idle rs ps Held n
+
 add3 : (w t i : Bool) (rs : List Record) (ps : List ℕ) (n k h f : ℕ) (q r : Record) → ((t ≡ true) → (k ≤ n) × (n ≤ length ps)) → ((t ≡ true) → ltb f (length rs) ≡ true → Room rs ps n f)
-    → Right (additionOf (spotBy3 w t i k h q (length rs)) f (length rs) n r) rs ps (add4 w t i (ltb f (length rs)))
-    (kept (add4 w t i (ltb f (length rs))) n (cond i n (n + 1))) (kept (add4 w t i (ltb f (length rs))) rs (set rs (cond i h f) r))
-    (kept (add4 w t i (ltb f (length rs))) ps (cond i ps (opened k (n + 1 - k) f ps)))
-add3 true true true rs ps n k h f q r l room = record { within = none-within ps; says = refl; counts = refl; records = refl; places = none-moved ps (h % 65536) }
+    → Right (additionOf (spotBy3 w t i k h q (length rs)) f (length rs) n r) rs ps (addBy w t i (ltb f (length rs)) (recordBeats r q))
+    (kept (addBy w t i (ltb f (length rs)) (recordBeats r q)) n (cond i n (n + 1))) (kept (addBy w t i (ltb f (length rs)) (recordBeats r q)) rs (cond (not i || recordBeats r q) (set rs (cond i h f) r) rs))
+    (kept (addBy w t i (ltb f (length rs)) (recordBeats r q)) ps (cond i ps (opened k (n + 1 - k) f ps)))
+add3 true true true rs ps n k h f q r l room = renewal rs ps n h r (recordBeats r q)
 add3 true true false rs ps n k h f q r l room = entrance rs ps n k f r (ltb f (length rs)) refl (l refl) (room refl)
 add3 true false i rs ps n k h f q r l room = idle rs ps _ n
 add3 false t i rs ps n k h f q r l room = idle rs ps _ n

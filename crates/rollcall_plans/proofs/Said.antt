@@ -10,6 +10,9 @@ use Rattle.outcome.specs.Outcomes.Outcome.{refusal, answer}
 use Rattle.rollcall_table.specs.declared.Record.{Record}
 use Rattle.rollcall_table.specs.declared.Reading.{Reading}
 use Rattle.rollcall_table.specs.declared.Reading.the-variants.{Known, Missing}
+use Rattle.rollcall_table.specs.declared.Grade.{Grade}
+use Rattle.rollcall_table.specs.declared.Grade.the-variants.{Clean, Sole, Several}
+use Rattle.rollcall_table.specs.Standing.{gradeNumber}
 use Rattle.rollcall_plans.specs.declared.Rolled.{Rolled}
 use Rattle.rollcall_plans.specs.declared.Rolled.the-variants as R
 use Rattle.rollcall_plans.specs.Calls.{said, found}
@@ -21,6 +24,15 @@ negative (suc n) = negsuc n
 readingBy : ℕ → ℕ → ℕ → Reading
 readingBy k s n = cond (eqb k 1) (Known (cond (eqb s 1) (negative n) (pos n))) Missing
 
+gradeBy : ℕ → Grade
+gradeBy n = cond (eqb n 0) Clean (cond (eqb n 1) Sole Several)
+
+grade-back : (g : Grade) → gradeBy (gradeNumber g) ≡ g
+unfolding gradeBy
+grade-back Clean = refl
+grade-back Sole = refl
+grade-back Several = refl
+
 -- what an answer of the paper was said for
 abbrev unsaid : Outcome → Rolled
 unsaid (refusal n) = R.Refused n
@@ -29,7 +41,8 @@ unsaid (answer n vs) =
     (cond (eqb n 1) R.Added
     (cond (eqb n 2) R.Renewed
     (cond (eqb n 3) R.Removed
-    (cond (eqb n 4) (R.Found (record { live = eqb (getD vs 0 0) 1; address = getD vs 1 0; altitude = readingBy (getD vs 3 0) (getD vs 4 0) (getD vs 5 0); time = getD vs 2 0 })) R.Absent))))
+    (cond (eqb n 4) (R.Found (record { live = eqb (getD vs 0 0) 1; address = getD vs 1 0; altitude = readingBy (getD vs 4 0) (getD vs 5 0) (getD vs 6 0); time = getD vs 2 0; grade = gradeBy (getD vs 3 0) }))
+    (cond (eqb n 5) R.Absent R.Held)))))
 
 unsaid-said : (z : Rolled) → unsaid (said z) ≡ z
 unfolding readingBy negative
@@ -37,9 +50,11 @@ unsaid-said R.Cleared = refl
 unsaid-said R.Added = refl
 unsaid-said R.Renewed = refl
 unsaid-said R.Removed = refl
-unsaid-said (R.Found r) = by (r .live) (r .altitude)
+unsaid-said (R.Found r) = by (r .live) (r .altitude) ∙ ap (λ (g : Grade). R.Found (record { live = r .live; address = r .address; altitude = r .altitude; time = r .time; grade = g })) (grade-back (r .grade))
   where
-    by : (l : Bool) (z : Reading) → unsaid (found (record { live = l; address = r .address; altitude = z; time = r .time })) ≡ R.Found (record { live = l; address = r .address; altitude = z; time = r .time })
+    by : (l : Bool) (z : Reading)
+        → unsaid (found (record { live = l; address = r .address; altitude = z; time = r .time; grade = r .grade }))
+        ≡ R.Found (record { live = l; address = r .address; altitude = z; time = r .time; grade = gradeBy (gradeNumber (r .grade)) })
     by true (Known (pos n)) = refl
     by true (Known (negsuc n)) = refl
     by true Missing = refl
@@ -47,6 +62,7 @@ unsaid-said (R.Found r) = by (r .live) (r .altitude)
     by false (Known (negsuc n)) = refl
     by false Missing = refl
 unsaid-said R.Absent = refl
+unsaid-said R.Held = refl
 unsaid-said (R.Refused n) = refl
 
 pub said-injective : (y z : Rolled) → said y ≡ said z → y ≡ z

@@ -1,9 +1,9 @@
--- The calls on the roll-call table (document 02, Point 4): what each answers, and the count, the records and the places after it.
+-- The calls on the roll-call table (document 02, Points 4 and 12): what each answers, and the count, the records and the places after it.
 --
 -- A call that is refused changes nothing. The place of a new record is the lowest one that is free; past the count the places
 -- stay as the moves of the list leave them.
 use Prim.Native.Nat.{ℕ, zero, suc, _+_, _-_}
-use mathlib.Core.Bool.{Bool, true, false, cond, _||_}
+use mathlib.Core.Bool.{Bool, true, false, not, cond, _||_}
 use mathlib.Core.List.{List, [], _∷_, _++_}
 use lib.IntN.{ℤ, pos, negsuc}
 use lib.ListN.{length, set}
@@ -15,6 +15,7 @@ use Rattle.rollcall_table.specs.declared.Record.{Record}
 use Rattle.rollcall_table.specs.declared.Reading.{Reading}
 use Rattle.rollcall_table.specs.declared.Reading.the-variants.{Known, Missing}
 use Rattle.rollcall_table.specs.declared.Sighting.{Sighting}
+use Rattle.rollcall_table.specs.Standing.{gradeNumber, recordBeats}
 use Rattle.rollcall_plans.specs.declared.Rolled.{Rolled}
 use Rattle.rollcall_plans.specs.declared.Rolled.the-variants as R
 use Rattle.rollcall_table.specs.Table.{one, recordAt, rightLengths, isSound, holder, freePlace, isIn, hasRoom, position, unmarked, unmarkedAll, recordOf}
@@ -28,21 +29,32 @@ altitudeValues (Known (pos n)) = 1 ∷ 0 ∷ n ∷ []
 altitudeValues (Known (negsuc n)) = 1 ∷ 1 ∷ suc n ∷ []
 altitudeValues Missing = 0 ∷ []
 
--- The answer that a record was found: whether it is live, its address, its time and its altitude.
+-- The answer that a record was found: whether it is live, its address, its time, its grade and its altitude.
 abbrev pub found : Record → Outcome
-found r = answer 4 (one (r .live) ∷ r .address ∷ r .time ∷ altitudeValues (r .altitude))
+found r = answer 4 (one (r .live) ∷ r .address ∷ r .time ∷ gradeNumber (r .grade) ∷ altitudeValues (r .altitude))
+
+abbrev pub added : Outcome
+added = answer 1 []
+
+abbrev pub renewed : Outcome
+renewed = answer 2 []
 
 abbrev pub absent : Outcome
 absent = answer 5 []
 
--- What a Rolled says. Point 4 numbers no answers; these are in the order of the enum.
+-- The record held remains.
+abbrev pub held : Outcome
+held = answer 6 []
+
+-- What a Rolled says. Points 4 and 12 number no answers; these are in the order of the enum.
 abbrev pub said : Rolled → Outcome
 said R.Cleared = done
-said R.Added = answer 1 []
-said R.Renewed = answer 2 []
+said R.Added = added
+said R.Renewed = renewed
 said R.Removed = answer 3 []
 said (R.Found r) = found r
 said R.Absent = absent
+said R.Held = held
 said (R.Refused n) = refusal n
 
 -- ---- parts of the definitions
@@ -119,19 +131,27 @@ removePlaces rs ps n a =
 
 -- ---- add or renew
 
--- Row 9 is last: 'the address is new and every place is live'.
+-- 'says whether the new reply stands': what is answered where an address is live or not, room is left or not, and the reply
+-- stands or not. Row 9 is last: 'the address is new and every place is live'.
+abbrev pub addAnswer : Bool → Bool → Bool → Outcome
+addAnswer live room stands = unless (live || room) tableFull (cond live (cond stands renewed held) added)
+
+-- The reply stands: the address is new, or the reply beats the record held.
+abbrev pub stands : List Record → Sighting → Bool
+stands rs s = not (isIn rs (s .address)) || recordBeats (recordOf s) (recordAt rs (holder rs (s .address)))
+
 unfoldable pub addOutcome : List Record → List ℕ → ℕ → Sighting → Outcome
-addOutcome rs ps n s =
-    checked rs ps n (s .address)
-    (unless (isIn rs (s .address) || hasRoom rs) tableFull (cond (isIn rs (s .address)) (answer 2 []) (answer 1 [])))
+addOutcome rs ps n s = checked rs ps n (s .address) (addAnswer (isIn rs (s .address)) (hasRoom rs) (stands rs s))
 
 unfoldable pub addCount : List Record → List ℕ → ℕ → Sighting → ℕ
 addCount rs ps n s = kept (addOutcome rs ps n s) n (cond (isIn rs (s .address)) n (n + 1))
 
--- A live address has its record replaced, whatever the times are; a new one gets the lowest free place.
+-- Where the reply stands, a live address has its record replaced, and a new one gets the lowest free place; 'otherwise the
+-- record held remains'.
 unfoldable pub addRecords : List Record → List ℕ → ℕ → Sighting → List Record
 addRecords rs ps n s =
-    kept (addOutcome rs ps n s) rs (set rs (cond (isIn rs (s .address)) (holder rs (s .address)) (freePlace rs)) (recordOf s))
+    kept (addOutcome rs ps n s) rs
+    (cond (stands rs s) (set rs (cond (isIn rs (s .address)) (holder rs (s .address)) (freePlace rs)) (recordOf s)) rs)
 
 -- The places of higher addresses move up by one.
 unfoldable pub addPlaces : List Record → List ℕ → ℕ → Sighting → List ℕ

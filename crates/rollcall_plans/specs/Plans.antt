@@ -6,10 +6,11 @@ use lib.Dec.{ltb, eqb}
 use lib.ListN.{length}
 use Rattle.rollcall_table.specs.declared.Record.{Record}
 use Rattle.rollcall_plans.specs.declared.Rolled.{Rolled}
-use Rattle.rollcall_plans.specs.declared.Rolled.the-variants.{Added, Renewed, Removed, Found, Absent, Refused}
+use Rattle.rollcall_plans.specs.declared.Rolled.the-variants.{Added, Renewed, Removed, Found, Absent, Held, Refused}
 use Rattle.rollcall_plans.specs.declared.Spot.{Spot}
 use Rattle.rollcall_plans.specs.declared.Plan.{Plan}
 use Rattle.rollcall_table.specs.Checks.{verdictOf, raisedOf}
+use Rattle.rollcall_table.specs.Standing.{recordBeats}
 use Rattle.rollcall_table.specs.Table.{blank, recordAt, isSound, holder, isIn, position, unmarked}
 use Rattle.rollcall_plans.specs.Calls.{opened, closed}
 
@@ -49,8 +50,10 @@ removalOf s n =
     (idleOf Absent n (s .place)))
     (idleOf (Refused (s .refusal)) n (s .place))
 
-abbrev pub renewalOf : ℕ → ℕ → Record → Plan
-renewalOf p n r = record { answer = Renewed; count = n; place = p; entry = r; at = 0; opened = 0; closed = 0 }
+-- A new record at the place p of m records, unless the one held there remains.
+abbrev pub renewalOf : Record → ℕ → ℕ → ℕ → Record → Plan
+renewalOf held p m n r =
+    cond (recordBeats r held) (record { answer = Renewed; count = n; place = p; entry = r; at = 0; opened = 0; closed = 0 }) (idleOf Held n m)
 
 -- A new record at the free place f of m records, or the refusal 9.
 abbrev pub entranceOf : ℕ → ℕ → ℕ → ℕ → Record → Plan
@@ -62,7 +65,7 @@ entranceOf k f m n r =
 abbrev pub additionOf : Spot → ℕ → ℕ → ℕ → Record → Plan
 additionOf s f m n r =
     cond (eqb (s .refusal) 0)
-    (cond (s .present) (renewalOf (s .place) n r) (entranceOf (s .at) f m n r))
+    (cond (s .present) (renewalOf (s .entry) (s .place) m n r) (entranceOf (s .at) f m n r))
     (idleOf (Refused (s .refusal)) n m)
 
 -- The places after a plan: its place enters the list, or one leaves it.

@@ -22,6 +22,7 @@ pub enum Rolled {
     Removed,
     Found(Record),
     Absent,
+    Held,
     Refused(u32),
 }
 

@@ -6,6 +6,7 @@ use crate::Reply;
 use crate::Rolled;
 use crate::Spot;
 use rollcall_table::Record;
+use rollcall_table::beats;
 use rollcall_table::blank;
 use rollcall_table::lowered;
 use rollcall_table::raised;
@@ -137,7 +138,8 @@ pub fn addition(s: Spot, free: usize, length: usize, count: usize, r: Record) ->
 {
     if s.refusal == 0 {
         if s.present {
-            renewal(s.place, count, r)
+            let held = s.entry;
+            renewal(held, s.place, length, count, r)
         } else {
             entrance(s.at, free, length, count, r)
         }
@@ -146,17 +148,22 @@ pub fn addition(s: Spot, free: usize, length: usize, count: usize, r: Record) ->
     }
 }
 
-fn renewal(place: usize, count: usize, r: Record) -> Plan
-    ensures { λ p. ⌜ p ≡ renewalOf place count r ⌝ }
+// The record held remains unless the new one beats it.
+fn renewal(held: Record, place: usize, length: usize, count: usize, r: Record) -> Plan
+    ensures { λ p. ⌜ p ≡ renewalOf held place length count r ⌝ }
 {
-    Plan {
-        answer: Rolled::Renewed,
-        count: count,
-        place: place,
-        entry: r,
-        at: 0,
-        opened: 0,
-        closed: 0,
+    if beats(r, held) {
+        Plan {
+            answer: Rolled::Renewed,
+            count: count,
+            place: place,
+            entry: r,
+            at: 0,
+            opened: 0,
+            closed: 0,
+        }
+    } else {
+        idle(Rolled::Held, count, length)
     }
 }
 

@@ -5,4 +5,5 @@ pub mod Counting
 pub mod Soundness
 pub mod Freeing
 pub mod Holding
+pub mod Beating
 pub mod Laws

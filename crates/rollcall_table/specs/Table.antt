@@ -12,6 +12,7 @@ use Rattle.message.specs.Message.{isWord}
 use Rattle.rollcall_table.specs.declared.Record.{Record}
 use Rattle.rollcall_table.specs.declared.Sighting.{Sighting}
 use Rattle.rollcall_table.specs.declared.Reading.the-variants.{Missing}
+use Rattle.rollcall_table.specs.declared.Grade.the-variants.{Clean}
 
 -- The largest length of a table.
 abbrev pub largest : ℕ
@@ -19,7 +20,7 @@ largest = 1000
 
 -- What stands where there is no record.
 abbrev pub blank : Record
-blank = record { live = false; address = 0; altitude = Missing; time = 0 }
+blank = record { live = false; address = 0; altitude = Missing; time = 0; grade = Clean }
 
 abbrev pub recordAt : List Record → ℕ → Record
 recordAt rs i = getD rs i blank
@@ -114,7 +115,7 @@ position rs ps n a = below rs a (take n ps)
 
 -- The record with its live mark unset, and nothing else.
 abbrev pub unmarked : Record → Record
-unmarked r = record { live = false; address = r .address; altitude = r .altitude; time = r .time }
+unmarked r = record { live = false; address = r .address; altitude = r .altitude; time = r .time; grade = r .grade }
 
 abbrev pub unmarkedAll : List Record → List Record
 unmarkedAll [] = []
@@ -122,4 +123,4 @@ unmarkedAll (r ∷ rs) = unmarked r ∷ unmarkedAll rs
 
 -- The live record of a sighting.
 abbrev pub recordOf : Sighting → Record
-recordOf s = record { live = true; address = s .address; altitude = s .altitude; time = s .time }
+recordOf s = record { live = true; address = s .address; altitude = s .altitude; time = s .time; grade = s .grade }

@@ -2,6 +2,7 @@
 //
 // The functions that touch a table are those of the crate rollcall. What decides is here and in rollcall_plans, by value.
 mod records;
+mod standing;
 
 pub use records::address_of;
 pub use records::after;
@@ -19,6 +20,8 @@ pub use records::smaller;
 pub use records::tally;
 pub use records::unmarked;
 pub use records::verdict;
+pub use standing::beats;
+pub use standing::grade_number;
 
 // The largest length of a table.
 const LARGEST: usize = 1000;
@@ -29,12 +32,20 @@ pub enum Reading {
     Missing,
 }
 
+// How a reply was received, by the sensor's answer: clean, or corrected with the mark sole or several.
+pub enum Grade {
+    Clean,
+    Sole,
+    Several,
+}
+
 // What is held of one aircraft; the time is in milliseconds. A record that is not live may hold anything.
 pub struct Record {
     pub live: bool,
     pub address: u32,
     pub altitude: Reading,
     pub time: u64,
+    pub grade: Grade,
 }
 
 // A reply of an aircraft, as it is added or renewed.
@@ -42,4 +53,5 @@ pub struct Sighting {
     pub address: u32,
     pub altitude: Reading,
     pub time: u64,
+    pub grade: Grade,
 }

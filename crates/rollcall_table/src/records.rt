@@ -5,6 +5,7 @@ ghost use mathlib.Core.Bool.{not, _&&_};
 ghost use lib.Dec.{eqb, ltb};
 ghost use Rattle.rollcall_table.specs.Table.{blank as blankRecord, one, isNext, rightLengths, holds as isOf, unmarked as unmarkedOf, recordOf};
 ghost use Rattle.rollcall_table.specs.Checks.{smallerOf, isRight, verdictOf, raisedOf};
+use crate::Grade;
 use crate::LARGEST;
 use crate::Reading;
 use crate::Record;
@@ -19,6 +20,7 @@ pub fn blank() -> Record
         address: 0,
         altitude: Reading::Missing,
         time: 0,
+        grade: Grade::Clean,
     }
 }
 
@@ -27,11 +29,13 @@ pub fn unmarked(r: Record) -> Record
     ensures { λ q. ⌜ q ≡ unmarkedOf r ⌝ }
 {
     let altitude = r.altitude;
+    let grade = r.grade;
     Record {
         live: false,
         address: r.address,
         altitude: altitude,
         time: r.time,
+        grade: grade,
     }
 }
 
@@ -61,11 +65,13 @@ pub fn record_of(s: Sighting) -> Record
     ensures { λ r. ⌜ r ≡ recordOf s ⌝ }
 {
     let altitude = s.altitude;
+    let grade = s.grade;
     Record {
         live: true,
         address: s.address,
         altitude: altitude,
         time: s.time,
+        grade: grade,
     }
 }
 

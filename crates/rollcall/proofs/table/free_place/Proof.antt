@@ -7,7 +7,7 @@ use native.Mathlib.Omega.{arith}
 use borrow.Author.Tests.{not-true, not-false}
 use Rattle.rollcall_table.specs.Table.{blank, recordAt, freePlace}
 use Rattle.rollcall_table.proofs.Laws.{free-at, free-past}
-use Rattle.rollcall.proofs.Kit.{ℕ, _+_, _-_, _≤_, _≡_, refl, sym, _∙_, true, false, List, [], _∷_, _++_, length, URA, Ty, named, w64, tyInt, tyBool, tyPtr, Heap, Tables, Atoms, Given, Lfts, Shares, givenOf, now, scaled-fits, ltb-true, ltb-false, Over, World, as-is, sInt, sBool, sPtr, sc-here, sslice, Rec, recOne, recCopy, Knows, gone, used, held, immTo, n64, flag, immS, keeps, _⟫_, meet, last, free, branch, blocks, loops, leaves, calls, num, lit, count, sets, less, plus, times, points, loads, copies, skips, returns, Walked, Asked, homes, known, by-walk}
+use Rattle.rollcall.proofs.Kit.{ℕ, _+_, _-_, _≤_, _≡_, refl, sym, _∙_, true, false, List, [], _∷_, _++_, length, URA, Ty, named, w64, tyInt, tyBool, tyPtr, Heap, Tables, Atoms, Given, Lfts, Shares, givenOf, now, scaled-fits, ltb-true, ltb-false, Over, World, as-is, sInt, sBool, sPtr, sc-here, sslice, Rec, recSize, recOne, recCopy, Knows, gone, used, held, immTo, n64, flag, immS, keeps, _⟫_, meet, last, free, branch, blocks, loops, leaves, calls, num, lit, count, sets, less, plus, times, points, loads, copies, skips, returns, Walked, Asked, homes, known, by-walk}
 use Rattle.rollcall.proofs.Sigs.{isFreeS, freePlaceS}
 use Rattle.rollcall_table.proofs.is_free.Symbol as is-free-def
 use Rattle.rollcall_table.proofs.is_free.Met as is-free-thm
@@ -28,9 +28,9 @@ module _ {M : Type 1} (𝓤 : URA M) (H : Heap 𝓤) (A : Atoms 𝓤) (W : Given
       (sets 4 (count 1 (immS Rec (named 0) 0) refl) gone refl ⟫
       less 5 (num 2 n64 refl) (num 4 n64 refl) gone refl ⟫
       meet (branch 5 flag refl skips (free 4 (used (sInt w64)) (free 5 (used sBool) leaves)))
-      (times 4 (num 2 n64 refl) (lit 24 tt) (used (sInt w64)) refl ⟫
+      (times 4 (num 2 n64 refl) (lit recSize tt) (used (sInt w64)) refl ⟫
       points 6 1 (immS Rec (named 0) 0) (num 4 n64 refl) refl gone refl ⟫
-      loads recOne recCopy 1 6 7 0 (immTo (named 0) Rec) 24 (λ u. u .1 .1 .0) blank (λ x. x) (λ x. x) refl (as-is 𝓤 H A (sslice Rec (immTo (named 0) Rec) 0)) (as-is 𝓤 H A (sc-here sPtr)) gone tt refl refl ⟫
+      loads recOne recCopy 1 6 7 0 (immTo (named 0) Rec) recSize (λ u. u .1 .1 .0) blank (λ x. x) (λ x. x) refl (as-is 𝓤 H A (sslice Rec (immTo (named 0) Rec) 0)) (as-is 𝓤 H A (sc-here sPtr)) gone tt refl refl ⟫
       copies recOne recCopy 7 3 (keeps recOne recCopy) gone refl refl ⟫
       calls isFreeS is-free-def.name is-free (record { pos = 3; st = []; d = 0; at = λ x. x }, tt) 8 [] ((keeps {W = W} recOne recCopy .out, refl), tt) gone tt refl ⟫
       free 3 (held Rec) (free 4 (used (sInt w64)) (free 5 (used sBool) (free 6 (used sPtr) (free 7 (held Rec)
@@ -48,7 +48,7 @@ module _ {M : Type 1} (𝓤 : URA M) (H : Heap 𝓤) (A : Atoms 𝓤) (W : Given
           (
             λ t.
                 let within = ltb-true v (length rs) t in (
-                  scaled-fits v (length rs) 24 within (good .0 .1),
+                  scaled-fits v (length rs) recSize within (good .0 .1),
                   (
                     tt,
                     (

@@ -3,7 +3,7 @@
 use contract.Running.{tablesOf}
 use lib.ListN.{List·getD-eq-default}
 use Rattle.rollcall_table.specs.Table.{blank}
-use Rattle.rollcall.proofs.Kit.{givenOf, Over, ℕ, refl, sym, _∙_, List, [], _∷_, length, URA, Ty, named, w64, tyInt, tyBool, tyPtr, Heap, Tables, Atoms, Given, Lfts, Shares, World, scaled-fits, ltb-true, ltb-false, sslice, as-is, sInt, sBool, sPtr, sc-here, Rec, recOne, recCopy, Knows, gone, used, held, immTo, n64, flag, immS, keeps, _⟫_, meet, free, branch, calls, num, lit, count, sets, less, times, points, loads, copies, skips, returns, Walked, Asked, homes, known, by-walk}
+use Rattle.rollcall.proofs.Kit.{givenOf, Over, ℕ, refl, sym, _∙_, List, [], _∷_, length, URA, Ty, named, w64, tyInt, tyBool, tyPtr, Heap, Tables, Atoms, Given, Lfts, Shares, World, scaled-fits, ltb-true, ltb-false, sslice, as-is, sInt, sBool, sPtr, sc-here, Rec, recSize, recOne, recCopy, Knows, gone, used, held, immTo, n64, flag, immS, keeps, _⟫_, meet, free, branch, calls, num, lit, count, sets, less, times, points, loads, copies, skips, returns, Walked, Asked, homes, known, by-walk}
 use Rattle.rollcall.proofs.Sigs.{blankS, getS}
 use Rattle.rollcall_table.proofs.blank.Symbol as blank-def
 use Rattle.rollcall_table.proofs.blank.Met as blank-thm
@@ -21,9 +21,9 @@ module _ {M : Type 1} (𝓤 : URA M) (H : Heap 𝓤) (A : Atoms 𝓤) (W : Given
       less 4 (num 2 n64 refl) (num 3 n64 refl) gone refl ⟫
       meet
       (branch 4 flag refl
-      (times 5 (num 2 n64 refl) (lit 24 tt) gone refl ⟫
+      (times 5 (num 2 n64 refl) (lit recSize tt) gone refl ⟫
       points 6 1 (immS Rec (named 0) 0) (num 5 n64 refl) refl gone refl ⟫
-      loads recOne recCopy 1 6 7 0 (immTo (named 0) Rec) 24 (λ u. u .1 .1 .0) blank (λ x. x) (λ x. x) refl (as-is 𝓤 H A (sslice Rec (immTo (named 0) Rec) 0)) (as-is 𝓤 H A (sc-here sPtr)) gone tt refl refl ⟫
+      loads recOne recCopy 1 6 7 0 (immTo (named 0) Rec) recSize (λ u. u .1 .1 .0) blank (λ x. x) (λ x. x) refl (as-is 𝓤 H A (sslice Rec (immTo (named 0) Rec) 0)) (as-is 𝓤 H A (sc-here sPtr)) gone tt refl refl ⟫
       copies recOne recCopy 7 0 (keeps recOne recCopy) gone refl refl ⟫
       free 2 (used (sInt w64)) (free 3 (used (sInt w64)) (free 4 (used sBool) (free 5 (used (sInt w64)) (free 6 (used sPtr) (free 7 (held Rec) returns))))))
       skips)
@@ -33,7 +33,7 @@ module _ {M : Type 1} (𝓤 : URA M) (H : Heap 𝓤) (A : Atoms 𝓤) (W : Given
   asked a good _ = (
     tt,
     (
-      λ t. let within = ltb-true (a .1 .0) (length (a .0 .now)) t in (scaled-fits (a .1 .0) (length (a .0 .now)) 24 within (good .0 .1), (tt, ((refl, refl, within), λ _. ((refl, (tt, tt)), refl)))),
+      λ t. let within = ltb-true (a .1 .0) (length (a .0 .now)) t in (scaled-fits (a .1 .0) (length (a .0 .now)) recSize within (good .0 .1), (tt, ((refl, refl, within), λ _. ((refl, (tt, tt)), refl)))),
       λ f. ((λ _. tt), λ g. ((refl, (tt, tt)), g .5 ∙ sym (List·getD-eq-default (a .0 .now) blank (ltb-false (a .1 .0) (length (a .0 .now)) f)))),
     ),
   )

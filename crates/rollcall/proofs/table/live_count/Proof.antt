@@ -6,7 +6,7 @@ use native.Mathlib.Nat.{zero-add}
 use native.Mathlib.Omega.{arith}
 use Rattle.rollcall_table.specs.Table.{blank, liveIn}
 use Rattle.rollcall_table.proofs.Laws.{live-turn, live-le, live-past}
-use Rattle.rollcall.proofs.Kit.{ℕ, _+_, _-_, _≤_, _≡_, refl, List, [], _∷_, _++_, length, URA, Ty, named, w64, tyInt, tyBool, tyPtr, Heap, Tables, Atoms, Given, Lfts, Shares, givenOf, now, scaled-fits, ltb-true, ltb-false, Over, World, as-is, sInt, sBool, sPtr, whole, sc-here, sslice, Rec, recOne, recCopy, Knows, gone, used, held, immTo, n64, flag, immS, keeps, _⟫_, meet, last, free, branch, blocks, loops, leaves, calls, num, lit, count, sets, less, plus, times, points, loads, copies, skips, returns, Walked, Asked, homes, known, by-walk}
+use Rattle.rollcall.proofs.Kit.{ℕ, _+_, _-_, _≤_, _≡_, refl, List, [], _∷_, _++_, length, URA, Ty, named, w64, tyInt, tyBool, tyPtr, Heap, Tables, Atoms, Given, Lfts, Shares, givenOf, now, scaled-fits, ltb-true, ltb-false, Over, World, as-is, sInt, sBool, sPtr, whole, sc-here, sslice, Rec, recSize, recOne, recCopy, Knows, gone, used, held, immTo, n64, flag, immS, keeps, _⟫_, meet, last, free, branch, blocks, loops, leaves, calls, num, lit, count, sets, less, plus, times, points, loads, copies, skips, returns, Walked, Asked, homes, known, by-walk}
 use Rattle.rollcall.proofs.Sigs.{tallyS, liveCountS}
 use Rattle.rollcall_table.proofs.tally.Symbol as tally-def
 use Rattle.rollcall_table.proofs.tally.Met as tally-thm
@@ -28,9 +28,9 @@ module _ {M : Type 1} (𝓤 : URA M) (H : Heap 𝓤) (A : Atoms 𝓤) (W : Given
       (sets 5 (count 1 (immS Rec (named 0) 0) refl) gone refl ⟫
       less 6 (num 3 n64 refl) (num 5 n64 refl) gone refl ⟫
       meet (branch 6 flag refl skips (free 5 (used (sInt w64)) (free 6 (used sBool) leaves)))
-      (times 5 (num 3 n64 refl) (lit 24 tt) (used (sInt w64)) refl ⟫
+      (times 5 (num 3 n64 refl) (lit recSize tt) (used (sInt w64)) refl ⟫
       points 7 1 (immS Rec (named 0) 0) (num 5 n64 refl) refl gone refl ⟫
-      loads recOne recCopy 1 7 8 0 (immTo (named 0) Rec) 24 (λ u. u .1 .1 .1 .0) blank (λ x. x) (λ x. x) refl (as-is 𝓤 H A (sslice Rec (immTo (named 0) Rec) 0)) (as-is 𝓤 H A (sc-here sPtr)) gone tt refl refl ⟫
+      loads recOne recCopy 1 7 8 0 (immTo (named 0) Rec) recSize (λ u. u .1 .1 .1 .0) blank (λ x. x) (λ x. x) refl (as-is 𝓤 H A (sslice Rec (immTo (named 0) Rec) 0)) (as-is 𝓤 H A (sc-here sPtr)) gone tt refl refl ⟫
       copies recOne recCopy 8 4 (keeps recOne recCopy) gone refl refl ⟫
       calls tallyS tally-def.name tally (record { pos = 4; st = []; d = 0; at = λ x. x }, tt) 5 [] ((keeps {W = W} recOne recCopy .out, refl), tt) (used (sInt w64)) tt refl ⟫
       plus 2 (num 2 n64 refl) (num 5 n64 refl) (used (sInt w64)) refl ⟫
@@ -47,7 +47,7 @@ module _ {M : Type 1} (𝓤 : URA M) (H : Heap 𝓤) (A : Atoms 𝓤) (W : Given
           (
             λ t.
                 let within = ltb-true (v .1) (length rs) t in (
-                  scaled-fits (v .1) (length rs) 24 within (good .0 .1),
+                  scaled-fits (v .1) (length rs) recSize within (good .0 .1),
                   (
                     tt,
                     (

@@ -7,7 +7,7 @@ use borrow.Rule.Slice.Mut.{setVals}
 use Rattle.rollcall_table.specs.declared.Record.{Record}
 use Rattle.rollcall_table.specs.Table.{blank}
 use Rattle.rollcall_table.proofs.Laws.{unmarkedTo, unmark-turn, unmark-length, unmark-end}
-use Rattle.rollcall.proofs.Kit.{ℕ, _+_, _-_, _<_, _≤_, _≡_, refl, ap, _∙_, subst, List, [], _∷_, _++_, length, set, URA, Ty, named, w64, tyInt, tyBool, tyPtr, Heap, Tables, Atoms, Given, Lfts, Shares, givenOf, now, scaled-fits, ltb-true, ltb-false, Over, World, fix-len, mslice, as-is, sInt, sBool, sPtr, sc-here, Rec, recOne, recCopy, Knows, gone, used, held, mutTo, n64, flag, mutS, keeps, _⟫_, meet, last, free, branch, blocks, loops, leaves, calls, num, lit, count, sets, less, plus, times, points, stores, loadsM, copies, unit, skips, returns, Walked, Asked, homes, known, by-walk}
+use Rattle.rollcall.proofs.Kit.{ℕ, _+_, _-_, _<_, _≤_, _≡_, refl, ap, _∙_, subst, List, [], _∷_, _++_, length, set, URA, Ty, named, w64, tyInt, tyBool, tyPtr, Heap, Tables, Atoms, Given, Lfts, Shares, givenOf, now, scaled-fits, ltb-true, ltb-false, Over, World, fix-len, mslice, as-is, sInt, sBool, sPtr, sc-here, Rec, recSize, recOne, recCopy, Knows, gone, used, held, mutTo, n64, flag, mutS, keeps, _⟫_, meet, last, free, branch, blocks, loops, leaves, calls, num, lit, count, sets, less, plus, times, points, stores, loadsM, copies, unit, skips, returns, Walked, Asked, homes, known, by-walk}
 use Rattle.rollcall.proofs.Sigs.{unmarkedS, unmarkAllS}
 use Rattle.rollcall_table.proofs.unmarked.Symbol as unmarked-def
 use Rattle.rollcall_table.proofs.unmarked.Met as unmarked-thm
@@ -28,14 +28,14 @@ module _ {M : Type 1} (𝓤 : URA M) (H : Heap 𝓤) (A : Atoms 𝓤) (W : Given
       (sets 4 (count 1 (mutS Rec (named 0) 0) refl) gone refl ⟫
       less 5 (num 2 n64 refl) (num 4 n64 refl) gone refl ⟫
       meet (branch 5 flag refl skips (free 4 (used (sInt w64)) (free 5 (used sBool) leaves)))
-      (times 4 (num 2 n64 refl) (lit 24 tt) (used (sInt w64)) refl ⟫
+      (times 4 (num 2 n64 refl) (lit recSize tt) (used (sInt w64)) refl ⟫
       points 6 1 (mutS Rec (named 0) 0) (num 4 n64 refl) refl gone refl ⟫
-      loadsM recOne recCopy 1 6 7 0 (mutTo (named 0) Rec) 24 (λ u. u .1 .1 .0) blank (λ x. x) (λ x. x) refl (as-is 𝓤 H A (mslice Rec (mutTo (named 0) Rec) 0)) (as-is 𝓤 H A (sc-here sPtr)) gone tt refl refl ⟫
+      loadsM recOne recCopy 1 6 7 0 (mutTo (named 0) Rec) recSize (λ u. u .1 .1 .0) blank (λ x. x) (λ x. x) refl (as-is 𝓤 H A (mslice Rec (mutTo (named 0) Rec) 0)) (as-is 𝓤 H A (sc-here sPtr)) gone tt refl refl ⟫
       copies recOne recCopy 7 3 (keeps recOne recCopy) gone refl refl ⟫
       calls unmarkedS unmarked-def.name unmarked (record { pos = 3; st = []; d = 0; at = λ x. x }, tt) 7 [] ((keeps {W = W} recOne recCopy .out, refl), tt) (held Rec) tt refl ⟫
-      times 4 (num 2 n64 refl) (lit 24 tt) (used (sInt w64)) refl ⟫
+      times 4 (num 2 n64 refl) (lit recSize tt) (used (sInt w64)) refl ⟫
       points 8 1 (mutS Rec (named 0) 0) (num 4 n64 refl) refl gone refl ⟫
-      stores recOne recCopy 1 8 7 0 (mutTo (named 0) Rec) 24 (λ u. u .1 .1 .0) (λ x. x) (λ x. x) (keeps recOne recCopy) refl (as-is 𝓤 H A (mslice Rec (mutTo (named 0) Rec) 0)) (as-is 𝓤 H A (sc-here sPtr)) tt refl refl ⟫
+      stores recOne recCopy 1 8 7 0 (mutTo (named 0) Rec) recSize (λ u. u .1 .1 .0) (λ x. x) (λ x. x) (keeps recOne recCopy) refl (as-is 𝓤 H A (mslice Rec (mutTo (named 0) Rec) 0)) (as-is 𝓤 H A (sc-here sPtr)) tt refl refl ⟫
       free 3 (held Rec) (free 4 (used (sInt w64)) (free 5 (used sBool) (free 6 (used sPtr) (free 7 (held Rec) (free 8 (used sPtr)
       (last (plus 2 (num 2 n64 refl) (lit 1 tt) (used (sInt w64)) refl)))))))))))
       (unit 0 gone refl ⟫ free 2 (used (sInt w64)) returns)
@@ -51,7 +51,7 @@ module _ {M : Type 1} (𝓤 : URA M) (H : Heap 𝓤) (A : Atoms 𝓤) (W : Given
                 λ c.
                     let at = ltb-true (v .1) (length (v .0)) c in
                     let within = subst (λ (k : ℕ). v .1 < k) same at in
-                    let fits = scaled-fits (v .1) (length rs) 24 within (good .0 .1) in (
+                    let fits = scaled-fits (v .1) (length rs) recSize within (good .0 .1) in (
                       fits,
                       (
                         tt,
