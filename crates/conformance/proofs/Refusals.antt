@@ -34,7 +34,7 @@ use Rattle.antennas.specs.declared.Antenna.the-variants.{Upper, Lower, Neither,
 use Rattle.antennas.proofs.Laws.{Case as AntennaCase, case as antenna-case, said-by-tests}
 use Rattle.rollcall_table.specs.declared.Record.{Record}
 use Rattle.rollcall_table.specs.Table.{recordAt, holder, isIn}
-use Rattle.rollcall_plans.specs.Calls.{found, absent, clearOutcome, findOutcome, removeOutcome, addOutcome}
+use Rattle.rollcall_plans.specs.Calls.{found, added, renewed, absent, held, stands, clearOutcome, findOutcome, removeOutcome, addOutcome}
 use Rattle.rollcall_meaning.proofs.Laws.{clear-leaves, add-leaves, remove-leaves}
 use Rattle.uplink_elm.specs.declared.Progress.{Progress}
 use Rattle.uplink_elm.specs.Receiving.{progressOf, withProgress, receiverAfter}
@@ -140,7 +140,7 @@ final (readAltitude m) = saidAltitude (readingOf m)
 final (writeAltitude m z s) = saidWriting (cond (hasAltitude m) Written NoSuchField)
 final (takenAntenna own u p l q) = saidAntenna (choiceOf own u p l q)
 final (clearTable rs ps n) = done
-final (addOrRenew rs ps n s) = cond (isIn rs (s .address)) (answer 2 []) (answer 1 [])
+final (addOrRenew rs ps n s) = cond (isIn rs (s .address)) (cond (stands rs s) renewed held) added
 final (removeRecord rs ps n a) = cond (isIn rs a) (answer 3 []) absent
 final (findRecord rs ps n a) = cond (isIn rs a) (found (recordAt rs (holder rs a))) absent
 final (receiveSegment own m r s) = withProgress (said (receptionOf own (addressRead (number m)) (formatNumber m))) (progressOf (receiverAfter own m r))
@@ -250,6 +250,11 @@ either-final : (t : Bool) (j k : ℕ) (us vs : List ℕ) → Unrefused (cond t (
 either-final true j k us vs n e = refusal-is-no-answer (sym e)
 either-final false j k us vs n e = refusal-is-no-answer (sym e)
 
+added-final : (i b : Bool) → Unrefused (cond i (cond b renewed held) added)
+added-final true true n e = refusal-is-no-answer (sym e)
+added-final true false n e = refusal-is-no-answer (sym e)
+added-final false b n e = refusal-is-no-answer (sym e)
+
 is-final : (c : Call) → Unrefused (final c)
 unfolding final
 is-final (registerStep r b) n e = refusal-is-no-answer (sym e)
@@ -266,7 +271,7 @@ is-final (readAltitude m) n e = reading-final m n e
 is-final (writeAltitude m z s) n e = writing-final (hasAltitude m) n e
 is-final (takenAntenna own u p l q) n e = antenna-final _ p _ q (choiceOf own u p l q) (antenna-case (isTaken (receptionOutcome own u)) p (isTaken (receptionOutcome own l)) q) n e
 is-final (clearTable rs ps k) n e = refusal-is-no-answer (sym e)
-is-final (addOrRenew rs ps k s) n e = either-final (isIn rs (s .address)) 2 1 [] [] n e
+is-final (addOrRenew rs ps k s) n e = added-final (isIn rs (s .address)) (stands rs s) n e
 is-final (removeRecord rs ps k a) n e = either-final (isIn rs a) 3 5 [] [] n e
 is-final (findRecord rs ps k a) n e = either-final (isIn rs a) 4 5 _ [] n e
 is-final (receiveSegment own m r s) n e = segment-final own (addressRead (number m)) (formatNumber m) (receptionOf own (addressRead (number m)) (formatNumber m)) _ (case own (addressRead (number m)) (formatNumber m)) n e

@@ -5,5 +5,7 @@ pub mod Mapping
 pub mod Changing
 pub mod Plain
 pub mod Running
+pub mod Standing
 pub mod Refusing
+pub mod Replying
 pub mod Laws

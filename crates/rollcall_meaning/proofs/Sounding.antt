@@ -1,6 +1,6 @@
 -- Every call leaves a sound table sound.
 use mathlib.Core.Path.{_≡_, refl, sym, ap, _∙_, subst}
-use mathlib.Core.Bool.{Bool, true, false, cond, _&&_, _||_}
+use mathlib.Core.Bool.{Bool, true, false, not, cond, _&&_, _||_}
 use mathlib.Core.List.{List, [], _∷_}
 use Prim.Native.Nat.{ℕ, zero, suc, _+_, _-_, _≤_, _<_}
 use native.Mathlib.Nat.{zero-add}
@@ -18,7 +18,7 @@ use Rattle.rollcall_table.specs.declared.Sighting.{Sighting}
 use Rattle.rollcall_table.specs.Table.{largest, blank, recordAt, placeAt, addressAt, rightLengths, one, liveIn, inOrder, isSound, holds, holder, freePlace, isIn, hasRoom, position, unmarked, unmarkedAll, recordOf}
 use Rattle.rollcall_table.proofs.Laws.{Parts, parts, of-parts, sound, sound-parts, lengths-right, in-there, in-holds, holds-in, holds-parts, alone, same-count, less-count, more-count, live-within, free-is, free-fewer}
 use Rattle.rollcall_plans.specs.Calls.{absent, kept, opened, closed, clearOutcome, clearCount, clearRecords, removeOutcome, removeCount, removeRecords, removePlaces, addOutcome, addCount, addRecords, addPlaces}
-use Rattle.rollcall_plans.proofs.Laws.{open-length, close-length, position-le}
+use Rattle.rollcall_plans.proofs.Laws.{open-length, close-length, position-le, addBy}
 use Rattle.rollcall_meaning.specs.Maps.{Call, Table, after}
 use Rattle.rollcall_meaning.specs.Maps.Call.{clear, add, remove, find}
 use Rattle.rollcall_meaning.specs.Keeping.{CheckedIsSound, SoundTable, RightLengths, KeepsSound, ClearMends, NoneLiveTwice}
@@ -180,16 +180,14 @@ remove-kept true true false rs rs′ ps ps′ n n′ e p f = p
 remove-kept true false i rs rs′ ps ps′ n n′ e p f = absurd (never e refl)
 remove-kept false t i rs rs′ ps ps′ n n′ e p f = p
 
-abbrev add4 : Bool → Bool → Bool → Bool → Outcome
-add4 w t i g = unless w 3 (unless t 8 (unless (i || g) 9 (cond i (answer 2 []) (answer 1 []))))
-
-add-kept : (w t i g : Bool) (rs : List Record) (ps ps′ : List ℕ) (n h f : ℕ) (r : Record) → t ≡ true → Parts rs ps n → (i ≡ true → Parts (set rs h r) ps n) → (w ≡ true → i ≡ false → g ≡ true → Parts (set rs f r) ps′ (n + 1))
-    → Parts (kept (add4 w t i g) rs (set rs (cond i h f) r)) (kept (add4 w t i g) ps (cond i ps ps′)) (kept (add4 w t i g) n (cond i n (n + 1)))
-add-kept true true true g rs ps ps′ n h f r e p x y = x refl
-add-kept true true false true rs ps ps′ n h f r e p x y = y refl refl refl
-add-kept true true false false rs ps ps′ n h f r e p x y = p
-add-kept true false i g rs ps ps′ n h f r e p x y = absurd (never e refl)
-add-kept false t i g rs ps ps′ n h f r e p x y = p
+add-kept : (w t i g b : Bool) (rs : List Record) (ps ps′ : List ℕ) (n h f : ℕ) (r : Record) → t ≡ true → Parts rs ps n → (i ≡ true → Parts (set rs h r) ps n) → (w ≡ true → i ≡ false → g ≡ true → Parts (set rs f r) ps′ (n + 1))
+    → Parts (kept (addBy w t i g b) rs (cond (not i || b) (set rs (cond i h f) r) rs)) (kept (addBy w t i g b) ps (cond i ps ps′)) (kept (addBy w t i g b) n (cond i n (n + 1)))
+add-kept true true true g true rs ps ps′ n h f r e p x y = x refl
+add-kept true true true g false rs ps ps′ n h f r e p x y = p
+add-kept true true false true b rs ps ps′ n h f r e p x y = y refl refl refl
+add-kept true true false false b rs ps ps′ n h f r e p x y = p
+add-kept true false i g b rs ps ps′ n h f r e p x y = absurd (never e refl)
+add-kept false t i g b rs ps ps′ n h f r e p x y = p
 
 clear-kept : (b : Bool) (rs rs′ : List Record) (ps : List ℕ) (n : ℕ) → b ≡ true → Parts rs′ ps 0 → Parts (kept (unless b 8 done) rs rs′) ps (kept (unless b 8 done) n 0)
 clear-kept true rs rs′ ps n e p = p
@@ -213,7 +211,7 @@ module _ (t : Table) where
       → Parts (addRecords (t .records) (t .places) (t .count) s) (addPlaces (t .records) (t .places) (t .count) s) (addCount (t .records) (t .places) (t .count) s)
   unfolding addRecords addPlaces addCount addOutcome
   added-parts s p =
-      add-kept (isWord (s .address)) (isSound (t .records) (t .places) (t .count)) (isIn (t .records) (s .address)) (hasRoom (t .records)) (t .records) (t .places) _ (t .count) (holder (t .records) (s .address)) (freePlace (t .records)) (recordOf s) (of-parts (t .records) (t .places) (t .count) p) p
+      add-kept (isWord (s .address)) (isSound (t .records) (t .places) (t .count)) (isIn (t .records) (s .address)) (hasRoom (t .records)) _ (t .records) (t .places) _ (t .count) (holder (t .records) (s .address)) (freePlace (t .records)) (recordOf s) (of-parts (t .records) (t .places) (t .count) p) p
       (λ e. renewed (t .records) (t .places) (t .count) p (s .address) (recordOf s) e refl refl)
       (λ w e g. added (t .records) (t .places) (t .count) p (s .address) (recordOf s) e g w refl refl)
 

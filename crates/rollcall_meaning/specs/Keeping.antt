@@ -1,9 +1,9 @@
--- What each call on the roll-call table keeps and changes (document 02, Point 4), as statements about the definitions that the
+-- What each call on the roll-call table keeps and changes (document 02, Points 4 and 12), as statements about the definitions that the
 -- contracts name.
 use Prim.Native.Nat.{ℕ, _<_, _≤_}
 use mathlib.Core.Path.{_≡_}
 use mathlib.Core.Logic.{_↔_, _⊎_}
-use mathlib.Core.Bool.{true, false, cond}
+use mathlib.Core.Bool.{true, false, cond, _&&_}
 use mathlib.Core.List.{List, []}
 use mathlib.Core.Option.{none, some}
 use lib.Dec.{eqb}
@@ -13,8 +13,8 @@ use Rattle.outcome.specs.Outcomes.Outcome.{refusal, answer}
 use Rattle.rollcall_table.specs.declared.Record.{Record}
 use Rattle.rollcall_table.specs.declared.Sighting.{Sighting}
 use Rattle.rollcall_table.specs.Table.{largest, recordAt, Sound, isSound, holds, unmarked, recordOf}
-use Rattle.rollcall_plans.specs.Calls.{absent}
-use Rattle.rollcall_meaning.specs.Maps.{mapOf, told, isSome, Call, Table, outcome, after}
+use Rattle.rollcall_plans.specs.Calls.{added, renewed, absent, held}
+use Rattle.rollcall_meaning.specs.Maps.{valueOf, mapOf, told, standsOver, isSome, Call, Table, outcome, after}
 use Rattle.rollcall_meaning.specs.Maps.Call.{clear, add, remove, find}
 
 -- ---- soundness
@@ -58,18 +58,24 @@ AbsentWhereNothing =
 unfoldable pub AbsentChangesNothing : Type 0
 AbsentChangesNothing = (t : Table) (a : ℕ) → (outcome (remove a) t ≡ absent → after (remove a) t ≡ t) × (after (find a) t ≡ t)
 
--- 'Renewing an address replaces its altitude and time'; adding or renewing that is not refused changes the map at that
--- address alone.
+-- 'Renewing an address replaces its altitude and time': a reply that is not refused changes the map where it stands, at that
+-- address alone; 'otherwise the record held remains'.
 unfoldable pub AddPuts : Type 0
 AddPuts =
     (t : Table) (s : Sighting) → SoundTable t → Unrefused (outcome (add s) t)
-    → (b : ℕ) → mapOf (after (add s) t .records) b ≡ cond (eqb b (s .address)) (some (s .altitude, s .time)) (mapOf (t .records) b)
+    → (b : ℕ) → mapOf (after (add s) t .records) b
+    ≡ cond (standsOver (valueOf (recordOf s)) (mapOf (t .records) (s .address)) && eqb b (s .address)) (some (valueOf (recordOf s))) (mapOf (t .records) b)
 
--- The answer says which of the two it was.
-unfoldable pub AddedOrRenewed : Type 0
-AddedOrRenewed =
+-- The answer 'says whether the new reply stands': added, where the address is new; of a live one renewed or held.
+unfoldable pub SaysWhetherItStands : Type 0
+SaysWhetherItStands =
     (t : Table) (s : Sighting) → SoundTable t → Unrefused (outcome (add s) t)
-    → outcome (add s) t ≡ cond (isSome (mapOf (t .records) (s .address))) (answer 2 []) (answer 1 [])
+    → outcome (add s) t
+    ≡ cond (isSome (mapOf (t .records) (s .address))) (cond (standsOver (valueOf (recordOf s)) (mapOf (t .records) (s .address))) renewed held) added
+
+-- 'Otherwise the record held remains': no record, no place and no count changes.
+unfoldable pub HeldChangesNothing : Type 0
+HeldChangesNothing = (t : Table) (s : Sighting) → outcome (add s) t ≡ held → after (add s) t ≡ t
 
 -- '9, the address is new and every place is live'
 unfoldable pub FullExactly : Type 0
@@ -100,8 +106,9 @@ RemoveUnsetsMark =
     ⊎ ((holds (recordAt (t .records) i) a ≡ true) × (recordAt (after (remove a) t .records) i ≡ unmarked (recordAt (t .records) i)))
 
 -- 'A new address gets a place without a live record …; no other record changes': a record that add or renew changes is the
--- sighting's afterwards, and was the address's before, or was not live; and only one changes.
+-- sighting's afterwards, and was the address's before, or was not live; and only one changes. Where the record held remains,
+-- none does.
 unfoldable pub AddChangesOne : Type 0
 AddChangesOne =
-    (t : Table) (s : Sighting) → Unrefused (outcome (add s) t)
+    (t : Table) (s : Sighting) → Unrefused (outcome (add s) t) → (outcome (add s) t ≡ held → ⊥)
     → (p : ℕ) × (((holds (recordAt (t .records) p) (s .address) ≡ true) ⊎ (recordAt (t .records) p .live ≡ false)) × ((recordAt (after (add s) t .records) p ≡ recordOf s) × ((i : ℕ) → (i ≡ p → ⊥) → recordAt (after (add s) t .records) i ≡ recordAt (t .records) i)))

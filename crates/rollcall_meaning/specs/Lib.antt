@@ -2,3 +2,4 @@
 pub mod Maps
 pub mod Keeping
 pub mod Running
+pub mod Standing

@@ -1,28 +1,31 @@
--- The table as a map from addresses to altitude and time, and a plain map to compare it with (document 02, Point 4).
+-- The table as a map from addresses to altitude, time and grade, and a plain map to compare it with (document 02, Points 4
+-- and 12).
 use Prim.Native.Nat.{ℕ}
-use mathlib.Core.Bool.{Bool, true, false, cond, _||_}
+use mathlib.Core.Bool.{Bool, true, false, cond}
 use mathlib.Core.List.{List, [], _∷_}
 use mathlib.Core.Option.{Option, none, some}
 use lib.Dec.{eqb, ltb}
 use lib.ListN.{length}
 use Rattle.outcome.specs.Outcomes.{Outcome, done, unless}
 use Rattle.outcome.specs.Outcomes.Outcome.{answer}
-use Rattle.outcome.specs.Refusals.{wordTooLarge, tableFull}
+use Rattle.outcome.specs.Refusals.{wordTooLarge}
 use Rattle.message.specs.Message.{isWord}
 use Rattle.rollcall_table.specs.declared.Record.{Record}
 use Rattle.rollcall_table.specs.declared.Reading.{Reading}
 use Rattle.rollcall_table.specs.declared.Sighting.{Sighting}
-use Rattle.rollcall_table.specs.Table.{holds}
-use Rattle.rollcall_plans.specs.Calls.{found, absent, kept, clearOutcome, clearCount, clearRecords, findOutcome, removeOutcome, removeCount, removeRecords, removePlaces, addOutcome, addCount, addRecords, addPlaces}
+use Rattle.rollcall_table.specs.declared.Grade.{Grade}
+use Rattle.rollcall_table.specs.Table.{holds, recordOf}
+use Rattle.rollcall_table.specs.Standing.{beats}
+use Rattle.rollcall_plans.specs.Calls.{found, absent, kept, addAnswer, clearOutcome, clearCount, clearRecords, findOutcome, removeOutcome, removeCount, removeRecords, removePlaces, addOutcome, addCount, addRecords, addPlaces}
 
 -- ---- the table as a map
 
--- An altitude or that it is missing, and a time.
+-- An altitude or that it is missing, a time, and a grade.
 abbrev pub Value : Type 0
-Value = Reading × ℕ
+Value = Reading × (ℕ × Grade)
 
 abbrev pub valueOf : Record → Value
-valueOf r = (r .altitude, r .time)
+valueOf r = (r .altitude, (r .time, r .grade))
 
 -- The value of the live record of an address, if there is one.
 unfoldable pub mapOf : List Record → ℕ → Option Value
@@ -31,12 +34,17 @@ mapOf (r ∷ rs) a = cond (holds r a) (some (valueOf r)) (mapOf rs a)
 
 -- The live record of an address and its value.
 abbrev pub recordFor : ℕ → Value → Record
-recordFor a v = record { live = true; address = a; altitude = v .0; time = v .1 }
+recordFor a v = record { live = true; address = a; altitude = v .0; time = v .1 .0; grade = v .1 .1 }
 
 -- What find says of an address, by its value.
 abbrev pub told : ℕ → Option Value → Outcome
 told a (some v) = found (recordFor a v)
 told a none = absent
+
+-- Whether a reply stands over what a map has of its address: there is nothing, or the reply beats it.
+abbrev pub standsOver : Value → Option Value → Bool
+standsOver v none = true
+standsOver v (some w) = beats (v .1 .0) (v .1 .1) (w .1 .0) (w .1 .1)
 
 -- ---- the calls
 
@@ -97,18 +105,19 @@ isSome (some x) = true
 isSome none = false
 
 -- What the calls answer and leave on a plain map with the room for r entries: an address above FFFFFF is refused by row 3, and
--- a new one by row 9 where no room is left.
+-- a new one by row 9 where no room is left. A reply that does not stand changes nothing.
 unfoldable pub plainOutcome : ℕ → Call → Entries → Outcome
 plainOutcome r clear m = done
 plainOutcome r (add s) m =
     unless (isWord (s .address)) wordTooLarge
-    (unless (isSome (lookup m (s .address)) || ltb (length m) r) tableFull
-    (cond (isSome (lookup m (s .address))) (answer 2 []) (answer 1 [])))
+    (addAnswer (isSome (lookup m (s .address))) (ltb (length m) r) (standsOver (valueOf (recordOf s)) (lookup m (s .address))))
 plainOutcome r (remove a) m = unless (isWord a) wordTooLarge (cond (isSome (lookup m a)) (answer 3 []) absent)
 plainOutcome r (find a) m = unless (isWord a) wordTooLarge (told a (lookup m a))
 
 unfoldable pub plainAfter : ℕ → Call → Entries → Entries
 plainAfter r clear m = []
-plainAfter r (add s) m = kept (plainOutcome r (add s) m) m (put (s .address) (s .altitude, s .time) m)
+plainAfter r (add s) m =
+    kept (plainOutcome r (add s) m) m
+    (cond (standsOver (valueOf (recordOf s)) (lookup m (s .address))) (put (s .address) (valueOf (recordOf s)) m) m)
 plainAfter r (remove a) m = kept (plainOutcome r (remove a) m) m (takeOut a m)
 plainAfter r (find a) m = m
