@@ -1,5 +1,5 @@
-//! What `roster` has to print for a whole input (document 02, Point 4): one
-//! roll-call table, and a line a call.
+//! What `roster` has to print for a whole input (document 02, Points 4 and 12):
+//! one roll-call table, and a line a call.
 //!
 //! The table is lent memory: records, places and a count, which lines can set to
 //! anything. Where row 8 does not refuse it, a call is answered by a map from
@@ -16,6 +16,34 @@ pub const LONGEST: usize = 1000;
 
 const HIGHEST_ADDRESS: u32 = 0xFF_FFFF;
 
+/// How a reply was received.
+#[derive(Debug, Clone, Copy, PartialEq, Eq)]
+pub enum Grade {
+    Clean,
+    Sole,
+    Several,
+}
+
+pub const GRADES: [Grade; 3] = [Grade::Clean, Grade::Sole, Grade::Several];
+
+impl Grade {
+    pub fn number(self) -> u8 {
+        match self {
+            Grade::Clean => 0,
+            Grade::Sole => 1,
+            Grade::Several => 2,
+        }
+    }
+
+    /// Clean is better than sole and several, and sole than several.
+    pub fn is_better(self, other: Grade) -> bool {
+        matches!(
+            (self, other),
+            (Grade::Clean, Grade::Sole | Grade::Several) | (Grade::Sole, Grade::Several)
+        )
+    }
+}
+
 #[derive(Debug, Clone, Copy, PartialEq, Eq)]
 pub struct Record {
     pub live: bool,
@@ -24,9 +52,18 @@ pub struct Record {
     pub altitude: Option<i32>,
     /// In milliseconds.
     pub time: u64,
+    pub grade: Grade,
 }
 
-const BLANK: Record = Record { live: false, address: 0, altitude: None, time: 0 };
+impl Record {
+    /// A later time beats an earlier one, and at equal times a better grade.
+    pub fn beats(&self, other: &Record) -> bool {
+        self.time > other.time || self.time == other.time && self.grade.is_better(other.grade)
+    }
+}
+
+const BLANK: Record =
+    Record { live: false, address: 0, altitude: None, time: 0, grade: Grade::Clean };
 
 /// A well-formed line.
 #[derive(Debug, Clone, PartialEq, Eq)]
@@ -36,7 +73,8 @@ pub enum Line {
     Place(u64, u16),
     Record(u64, Record),
     Clear,
-    Add(u32, Option<i32>, u64),
+    /// The live record that is to stand.
+    Add(Record),
     Remove(u32),
     Find(u32),
     Show,
@@ -52,8 +90,9 @@ pub enum Reply {
     Added,
     Renewed,
     Removed,
-    Found(Option<i32>, u64),
+    Found(Record),
     Absent,
+    Held,
     Refused(u8),
     Shown,
 }
@@ -70,6 +109,7 @@ impl Reply {
             Reply::Removed => "removed",
             Reply::Found(..) => "found",
             Reply::Absent => "absent",
+            Reply::Held => "held",
             Reply::Refused(_) => "refused",
             Reply::Shown => "shown",
         }
@@ -114,6 +154,26 @@ fn live(text: &[u8]) -> Option<bool> {
     }
 }
 
+fn grade(text: &[u8]) -> Option<Grade> {
+    match text {
+        b"0" => Some(Grade::Clean),
+        b"1" => Some(Grade::Sole),
+        b"2" => Some(Grade::Several),
+        _ => None,
+    }
+}
+
+/// The columns of a record from its address on.
+fn record(live: bool, [word, feet, time, mark]: [&[u8]; 4]) -> Option<Record> {
+    Some(Record {
+        live,
+        address: address(word)?,
+        altitude: altitude(feet)?,
+        time: number(time)?,
+        grade: grade(mark)?,
+    })
+}
+
 /// Reads a line without its line feed; none if it is malformed.
 pub fn read(line: &[u8]) -> Option<Line> {
     let columns: Vec<&[u8]> = line.split(|byte| *byte == b' ').collect();
@@ -121,17 +181,11 @@ pub fn read(line: &[u8]) -> Option<Line> {
         [b"table", records, places] => Line::Table(length(records)?, length(places)?),
         [b"count", count] => Line::Count(number(count)?),
         [b"place", index, place] => Line::Place(number(index)?, number(place)?.try_into().ok()?),
-        [b"record", index, mark, word, feet, time] => Line::Record(
-            number(index)?,
-            Record {
-                live: live(mark)?,
-                address: address(word)?,
-                altitude: altitude(feet)?,
-                time: number(time)?,
-            },
-        ),
+        [b"record", index, mark, word, feet, time, grade] => {
+            Line::Record(number(index)?, record(live(mark)?, [word, feet, time, grade])?)
+        }
         [b"clear"] => Line::Clear,
-        [b"add", word, feet, time] => Line::Add(address(word)?, altitude(feet)?, number(time)?),
+        [b"add", word, feet, time, grade] => Line::Add(record(true, [word, feet, time, grade])?),
         [b"remove", word] => Line::Remove(address(word)?),
         [b"find", word] => Line::Find(address(word)?),
         [b"show"] => Line::Show,
@@ -204,7 +258,7 @@ impl Table {
     pub fn rows(&self, line: &Line) -> Vec<u8> {
         let (word, full) = match line {
             Line::Clear => return if self.wrong_lengths() { vec![8] } else { Vec::new() },
-            Line::Add(word, ..) => (*word, self.all_live() && !self.has(*word)),
+            Line::Add(Record { address, .. }) => (*address, self.all_live() && !self.has(*address)),
             Line::Remove(word) | Line::Find(word) => (*word, false),
             _ => return Vec::new(),
         };
@@ -227,16 +281,18 @@ impl Table {
         self.count = map.len() as u64;
     }
 
-    fn add(&mut self, address: u32, altitude: Option<i32>, time: u64) -> Reply {
-        let record = Record { live: true, address, altitude, time };
+    fn add(&mut self, record: Record) -> Reply {
         let mut map = self.map();
-        if let Some(place) = map.get(&address) {
+        if let Some(place) = map.get(&record.address) {
+            if !record.beats(&self.records[*place]) {
+                return Reply::Held;
+            }
             self.records[*place] = record;
             return Reply::Renewed;
         }
         let free = self.records.iter().position(|record| !record.live).expect("row 9");
         self.records[free] = record;
-        map.insert(address, free);
+        map.insert(record.address, free);
         self.list(&map);
         Reply::Added
     }
@@ -253,10 +309,7 @@ impl Table {
 
     fn find(&self, address: u32) -> Reply {
         match self.map().get(&address) {
-            Some(place) => {
-                let record = self.records[*place];
-                Reply::Found(record.altitude, record.time)
-            }
+            Some(place) => Reply::Found(self.records[*place]),
             None => Reply::Absent,
         }
     }
@@ -297,7 +350,7 @@ impl Table {
             Line::Place(index, place) => Table::set(&mut self.places, *index, *place),
             Line::Record(index, record) => Table::set(&mut self.records, *index, *record),
             Line::Clear => self.clear(),
-            Line::Add(word, feet, time) => self.add(*word, *feet, *time),
+            Line::Add(record) => self.add(*record),
             Line::Remove(word) => self.remove(*word),
             Line::Find(word) => self.find(*word),
             Line::Show => Reply::Shown,
@@ -319,8 +372,9 @@ fn listed(texts: Vec<String>) -> String {
 }
 
 fn shown(record: &Record) -> String {
-    let Record { live, address, altitude, time } = record;
-    format!("{}:{address:06X}:{}:{time}", u8::from(*live), feet_or_dash(*altitude))
+    let Record { live, address, altitude, time, grade } = record;
+    let feet = feet_or_dash(*altitude);
+    format!("{}:{address:06X}:{feet}:{time}:{}", u8::from(*live), grade.number())
 }
 
 /// What came of a line: nothing if it is malformed; else the line, the answer, and
@@ -331,13 +385,24 @@ pub struct Met {
     pub before: Table,
 }
 
+impl Met {
+    /// The record of an address before the line: the live one, or else one that was
+    /// removed.
+    pub fn before_of(&self, address: u32) -> Option<&Record> {
+        let its = || self.before.records.iter().filter(|record| record.address == address);
+        its().find(|record| record.live).or_else(|| its().next())
+    }
+}
+
 /// The output line for what came of line `number`; the table is the one after it.
 fn print(number: usize, reply: Option<&Reply>, table: &Table) -> String {
     let Some(reply) = reply else {
         return format!("{number} malformed {}\n", table.count);
     };
     let more = match reply {
-        Reply::Found(altitude, time) => format!(" {} {time}", feet_or_dash(*altitude)),
+        Reply::Found(Record { altitude, time, grade, .. }) => {
+            format!(" {} {time} {}", feet_or_dash(*altitude), grade.number())
+        }
         Reply::Refused(row) => format!(" {row}"),
         Reply::Shown => {
             let places = table.places.iter().map(u16::to_string).collect();
@@ -383,15 +448,49 @@ mod tests {
 
     #[test]
     fn a_day() {
-        let input = "table 2 2\nadd 4840D6 38000 1000\nadd 400000 - 2000\nadd 4840D6 -25 500\n\
-            add FFFFFF 0 0\nfind 4840D6\nfind 400000\nfind 0\nshow\nremove 400000\nshow\nremove 400000\n\
+        let input = "table 2 2\nadd 4840D6 38000 1000 0\nadd 400000 - 2000 2\nadd 4840D6 -25 1500 1\n\
+            add FFFFFF 0 0 0\nfind 4840D6\nfind 400000\nfind 0\nshow\nremove 400000\nshow\nremove 400000\n\
             clear\nshow\n";
         let expected = "1 table 0\n2 added 1\n3 added 2\n4 renewed 2\n5 refused 2 9\n\
-            6 found 2 -25 500\n7 found 2 - 2000\n8 absent 2\n\
-            9 shown 2 1,0 1:4840D6:-25:500,1:400000:-:2000\n10 removed 1\n\
-            11 shown 1 0,0 1:4840D6:-25:500,0:400000:-:2000\n12 absent 1\n13 cleared 0\n\
-            14 shown 0 0,0 0:4840D6:-25:500,0:400000:-:2000\n";
+            6 found 2 -25 1500 1\n7 found 2 - 2000 2\n8 absent 2\n\
+            9 shown 2 1,0 1:4840D6:-25:1500:1,1:400000:-:2000:2\n10 removed 1\n\
+            11 shown 1 0,0 1:4840D6:-25:1500:1,0:400000:-:2000:2\n12 absent 1\n13 cleared 0\n\
+            14 shown 0 0,0 0:4840D6:-25:1500:1,0:400000:-:2000:2\n";
         assert_eq!(printed(input), expected);
+    }
+
+    #[test]
+    fn which_reply_stands() {
+        let input = "add 5 1 10 1\nadd 5 2 10 1\nadd 5 3 10 2\nfind 5\nadd 5 4 10 0\nadd 5 5 9 0\n\
+            add 5 6 11 2\nfind 5\nremove 5\nadd 5 7 0 2\nfind 5\n";
+        let expected = "1 added 1\n2 held 1\n3 held 1\n4 found 1 1 10 1\n5 renewed 1\n6 held 1\n\
+            7 renewed 1\n8 found 1 6 11 2\n9 removed 0\n10 added 1\n11 found 1 7 0 2\n";
+        assert_eq!(printed(input), expected);
+    }
+
+    /// Every list of up to four replies of two times, by the words of Point 12: the
+    /// earliest in the list among those that nothing in the list beats.
+    #[test]
+    fn the_earliest_unbeaten_stands() {
+        let mut replies = Vec::new();
+        for (k, grade) in GRADES.into_iter().cycle().take(6).enumerate() {
+            let (time, altitude) = (k as u64 / 3, None);
+            replies.push(Record { live: true, address: 5, altitude, time, grade });
+        }
+        for length in 1..=4 {
+            for number in 0..6usize.pow(length) {
+                let mut table = Table::new(1, 1);
+                let mut list = Vec::new();
+                for k in 0..length {
+                    let reply = replies[number / 6usize.pow(k) % 6];
+                    list.push(Record { altitude: Some(k as i32), ..reply });
+                    table.answer(&Line::Add(list[k as usize]));
+                }
+                let unbeaten = |reply: &&Record| !list.iter().any(|other| other.beats(reply));
+                let stands = *list.iter().find(unbeaten).expect("one stands");
+                assert_eq!(table.answer(&Line::Find(5)), Reply::Found(stands));
+            }
+        }
     }
 
     #[test]
@@ -406,17 +505,17 @@ mod tests {
         refused("table 2 3", "find 0", 8);
         refused("count 17", "find 0", 8);
         refused("count 1", "find 0", 8);
-        refused("record 0 1 0 - 0", "find 0", 8);
-        refused("record 0 1 1000000 - 0\ncount 1", "find 0", 8);
-        refused("record 0 1 5 - 0\ncount 1\nplace 0 16", "find 0", 8);
+        refused("record 0 1 0 - 0 0", "find 0", 8);
+        refused("record 0 1 1000000 - 0 0\ncount 1", "find 0", 8);
+        refused("record 0 1 5 - 0 0\ncount 1\nplace 0 16", "find 0", 8);
         refused("count 1", "find 1000000", 3);
-        refused("table 1 1\nadd 1 - 0", "add 1000000 - 0", 3);
-        refused("table 1 1\nadd 1 - 0", "add 2 - 0", 9);
+        refused("table 1 1\nadd 1 - 0 0", "add 1000000 - 0 0", 3);
+        refused("table 1 1\nadd 1 - 0 0", "add 2 - 0 0", 9);
     }
 
     #[test]
     fn equal_addresses_are_not_ascending() {
-        let input = "record 0 1 5 - 0\nrecord 1 1 5 - 0\nplace 1 1\ncount 2\nfind 5\n";
+        let input = "record 0 1 5 - 0 0\nrecord 1 1 5 - 0 0\nplace 1 1\ncount 2\nfind 5\n";
         assert!(printed(input).ends_with("5 refused 2 8\n"));
     }
 
@@ -426,10 +525,10 @@ mod tests {
             "table 1024 0",
             "count 18446744073709551615",
             "place 0 65535",
-            "record 0 0 FFFFFFFF -2147483648 18446744073709551615",
-            "add 0 2147483647 0",
+            "record 0 0 FFFFFFFF -2147483648 18446744073709551615 2",
+            "add 0 2147483647 0 1",
             "find 00000000",
-            "add 0 -0 00000000000000000000",
+            "add 0 -0 00000000000000000000 0",
         ] {
             assert!(read(line.as_bytes()).is_some(), "{line}");
         }
@@ -441,12 +540,16 @@ mod tests {
             "count 000000000000000000000",
             "count -1",
             "place 0 65536",
-            "record 0 2 0 - 0",
-            "record 0 1 0 2147483648 0",
-            "record 0 1 0 -2147483649 0",
-            "add 0 -- 0",
-            "add 000000000 - 0",
-            "add a - 0",
+            "record 0 2 0 - 0 0",
+            "record 0 1 0 2147483648 0 0",
+            "record 0 1 0 -2147483649 0 0",
+            "add 0 -- 0 0",
+            "add 000000000 - 0 0",
+            "add a - 0 0",
+            "add 0 - 0",
+            "add 0 - 0 3",
+            "add 0 - 0 00",
+            "record 0 1 0 - 0",
             "find 0 ",
             "show 1",
             "Clear",

@@ -2,7 +2,7 @@
 //! is of.
 
 use crate::blocks::{Aim, INPUTS, MALFORMED};
-use crate::roster::{Line, Met, Reply, LONGEST};
+use crate::roster::{Grade, Line, Met, Record, Reply, GRADES, LONGEST};
 use crate::roster_lines::*;
 use crate::tally::{Group, Tally};
 
@@ -10,6 +10,8 @@ const ANSWERS: &str = "lines by their answer";
 const TOGETHER: &str = "rows of the table of refusals that apply, alone or together";
 const LENGTHS_ADDED: &str = "added, by the length of the table";
 const FULL: &str = "refused 9, by the length of the table";
+const REPLIES: &str = "replies about a live address, by time and grade";
+const REMOVED: &str = "added after a removal, by time and grade";
 const AT_THE_ENDS: &str = "found, at the ends of the range";
 
 fn answers() -> Vec<&'static str> {
@@ -24,6 +26,7 @@ fn answers() -> Vec<&'static str> {
         "clear refused 8",
         "add added",
         "add renewed",
+        "add held",
         "add refused 3",
         "add refused 8",
         "add refused 9",
@@ -50,6 +53,43 @@ fn together() -> Vec<String> {
     kinds
 }
 
+fn grade_name(grade: Grade) -> &'static str {
+    match grade {
+        Grade::Clean => "clean",
+        Grade::Sole => "sole",
+        Grade::Several => "several",
+    }
+}
+
+/// How a reply compares with a record, and what it is answered.
+fn compared(time: &str, grades: [Grade; 2], answer: &str) -> String {
+    let [new, old] = grades.map(grade_name);
+    format!("{time}, {new} after {old}: {answer}")
+}
+
+/// All ways that a reply can compare with the record held, by the words of Point 12.
+fn replies() -> Vec<String> {
+    let pairs = GRADES.into_iter().flat_map(|new| GRADES.map(|old| [new, old]));
+    let answered = |grades: [Grade; 2]| {
+        let better = ["clean sole", "clean several", "sole several"];
+        let equal = if better.contains(&grades.map(grade_name).join(" ").as_str()) {
+            "renewed"
+        } else {
+            "held"
+        };
+        TIMES.map(|(time, step)| {
+            compared(time, grades, ["held", equal, "renewed"][(step + 1) as usize])
+        })
+    };
+    pairs.flat_map(answered).collect()
+}
+
+/// A removed address stands by any time and any grade.
+fn after_removals() -> Vec<String> {
+    let pairs = GRADES.into_iter().flat_map(|new| GRADES.map(|old| [new, old]));
+    pairs.map(|grades| compared(TIMES[0].0, grades, "added")).collect()
+}
+
 /// All groups, with the kinds that a run has to meet.
 pub fn groups(special: &[&'static str]) -> Vec<Group> {
     let by_call = CALLS
@@ -65,6 +105,8 @@ pub fn groups(special: &[&'static str]) -> Vec<Group> {
         Group::each(TOGETHER, together()),
         Group::summed(LENGTHS_ADDED, 1..=LONGEST),
         Group::each(FULL, FILLED),
+        Group::each(REPLIES, replies()),
+        Group::each(REMOVED, after_removals()),
         Group::each(AT_THE_ENDS, ends.into_iter().chain(more)),
         Group::each(DAMAGED, by_call),
         Group::summed(DAMAGED_TWICE, twice),
@@ -96,10 +138,11 @@ pub fn count(tally: &mut Tally, met: Option<&Met>, aim: Option<&Aim>) {
             tally.add(aim.group, &aim.kind);
         }
     }
-    let Some(Met { line, reply, before }) = met else {
+    let Some(met) = met else {
         tally.add(ANSWERS, answer);
         return;
     };
+    let Met { line, reply, before } = met;
     let row = match reply {
         Reply::Refused(row) => format!(" {row}"),
         _ => String::new(),
@@ -112,12 +155,30 @@ pub fn count(tally: &mut Tally, met: Option<&Met>, aim: Option<&Aim>) {
     match reply {
         Reply::Added => tally.add(LENGTHS_ADDED, before.records.len()),
         Reply::Refused(9) => tally.add(FULL, before.records.len()),
-        Reply::Found(altitude, time) => count_found(tally, line, *altitude, *time),
+        Reply::Found(record) => count_found(tally, record),
         _ => (),
+    }
+    if let (Line::Add(new), Reply::Added | Reply::Renewed | Reply::Held) = (line, reply) {
+        count_reply(tally, met.before_of(new.address), new, answer);
     }
 }
 
-fn count_found(tally: &mut Tally, line: &Line, altitude: Option<i32>, time: u64) {
+/// Counts a reply by how it compares with the record that the address had.
+fn count_reply(tally: &mut Tally, old: Option<&Record>, new: &Record, answer: &str) {
+    let Some(old) = old else {
+        return;
+    };
+    let time = TIMES[(new.time.cmp(&old.time) as i8 + 1) as usize].0;
+    let kind = compared(time, [new.grade, old.grade], answer);
+    if old.live {
+        tally.add(REPLIES, kind);
+    } else if time == TIMES[0].0 {
+        tally.add(REMOVED, kind);
+    }
+}
+
+fn count_found(tally: &mut Tally, record: &Record) {
+    let Record { address, altitude, time, .. } = *record;
     match altitude {
         None => tally.add(AT_THE_ENDS, "no altitude"),
         Some(feet) if [i32::MIN, i32::MAX].contains(&feet) => {
@@ -128,7 +189,7 @@ fn count_found(tally: &mut Tally, line: &Line, altitude: Option<i32>, time: u64)
     if [0, u64::MAX].contains(&time) {
         tally.add(AT_THE_ENDS, format!("time {time}"));
     }
-    if let Line::Find(address @ (0 | 0xFF_FFFF)) = line {
+    if [0, 0xFF_FFFF].contains(&address) {
         tally.add(AT_THE_ENDS, format!("address {address:06X}"));
     }
 }

@@ -4,7 +4,7 @@
 use crate::blocks::{Made, MALFORMED};
 use crate::defects::{spoiled, Column, Defect, Sort, OF_THE_LINE};
 use crate::random::Random;
-use crate::roster::{Line, Record, Table, LONGEST};
+use crate::roster::{Grade, Line, Record, Table, GRADES, LONGEST};
 
 /// The groups of the lines that are made for something.
 pub const DAMAGED: &str = "refused 8, by call and what is damaged";
@@ -31,12 +31,14 @@ pub fn text(line: &Line) -> String {
         Line::Table(records, places) => format!("table {records} {places}"),
         Line::Count(count) => format!("count {count}"),
         Line::Place(index, place) => format!("place {index} {place}"),
-        Line::Record(index, Record { live, address, altitude, time }) => {
-            let feet = altitude_text(*altitude);
-            format!("record {index} {} {address:X} {feet} {time}", u8::from(*live))
+        Line::Record(index, Record { live, address, altitude, time, grade }) => {
+            let (mark, feet, grade) = (u8::from(*live), altitude_text(*altitude), grade.number());
+            format!("record {index} {mark} {address:X} {feet} {time} {grade}")
         }
         Line::Clear => "clear".to_string(),
-        Line::Add(word, feet, time) => format!("add {word:06X} {} {time}", altitude_text(*feet)),
+        Line::Add(Record { address, altitude, time, grade, .. }) => {
+            format!("add {address:06X} {} {time} {}", altitude_text(*altitude), grade.number())
+        }
         Line::Remove(word) => format!("remove {word:X}"),
         Line::Find(word) => format!("find {word:08X}"),
         Line::Show => "show".to_string(),
@@ -55,8 +57,14 @@ fn any_time(random: &mut Random) -> u64 {
     match random.below(5) {
         0 => *random.pick(&[0, 1, u64::MAX - 1, u64::MAX]),
         1 => random.number(),
+        2 => 1000 + random.below(3) as u64,
         _ => random.below(86_400_000) as u64,
     }
+}
+
+fn any_add(random: &mut Random, address: u32) -> Line {
+    let (altitude, time) = (any_altitude(random), any_time(random));
+    Line::Add(Record { live: true, address, altitude, time, grade: *random.pick(&GRADES) })
 }
 
 /// One of a few addresses, so that calls meet what others have added, the ends of
@@ -74,7 +82,7 @@ fn any_address(random: &mut Random, few: usize) -> u32 {
 fn any_call(random: &mut Random, length: usize) -> Line {
     let address = any_address(random, length + length / 2 + 1);
     match random.below(12) {
-        0..=5 => Line::Add(address, any_altitude(random), any_time(random)),
+        0..=5 => any_add(random, address),
         6 | 7 => Line::Remove(address),
         8..=10 => Line::Find(address),
         _ if random.one_in(30) => Line::Clear,
@@ -90,6 +98,7 @@ pub fn any_line(random: &mut Random) -> Vec<u8> {
         address: any_address(random, 20),
         altitude: any_altitude(random),
         time: any_time(random),
+        grade: *random.pick(&GRADES),
     };
     let line = match random.below(12) {
         0 => Line::Table(random.from_to(0, 40), random.from_to(0, 40)),
@@ -114,10 +123,9 @@ fn filled(random: &mut Random, length: usize) -> Vec<Made> {
     random.shuffle(&mut addresses);
     let mut lines = vec![made(text(&Line::Table(length, length)))];
     for address in addresses {
-        lines.push(made(text(&Line::Add(address, any_altitude(random), any_time(random)))));
+        lines.push(made(text(&any_add(random, address))));
     }
-    let over = Line::Add(0x100_0000, None, 0);
-    lines.push(made(text(&over)));
+    lines.push(made(text(&any_add(random, 0x100_0000))));
     lines
 }
 
@@ -132,8 +140,7 @@ pub fn all(random: &mut Random) -> Vec<Made> {
         lines.push(made(text(&Line::Table(length, length))));
         let addresses = [random.word(), random.word(), random.word()];
         for address in addresses {
-            let call = Line::Add(address, any_altitude(random), any_time(random));
-            lines.push(made(text(&call)));
+            lines.push(made(text(&any_add(random, address))));
         }
         lines.extend(addresses.map(|address| made(text(&Line::Find(address)))));
         lines.push(made(text(&Line::Remove(addresses[0]))));
@@ -208,7 +215,7 @@ fn right_table(random: &mut Random) -> Table {
     let mut table = Table::new(length, length);
     for _ in 0..random.from_to(2, length - 2) {
         let address = random.word() & 0xEF_FFFF;
-        table.answer(&Line::Add(address, any_altitude(random), any_time(random)));
+        table.answer(&any_add(random, address));
     }
     if table.count < 2 {
         return right_table(random);
@@ -238,7 +245,7 @@ fn lines_of(table: &Table) -> Vec<Made> {
 fn call_named(random: &mut Random, name: &str) -> Line {
     let address = random.word();
     match name {
-        "add" => Line::Add(address, any_altitude(random), any_time(random)),
+        "add" => any_add(random, address),
         "remove" => Line::Remove(address),
         _ => Line::Find(address),
     }
@@ -293,13 +300,55 @@ fn mended(random: &mut Random, damage: Damage) -> Vec<Made> {
 fn full_and_damaged(random: &mut Random) -> Vec<Made> {
     let mut lines = filled(random, 3);
     lines.push(made("place 0 3".to_string()));
-    lines.push(made(text(&Line::Add(0xFF_FFFF, None, 0))));
-    lines.push(made(text(&Line::Add(0x100_0000, None, 0))));
+    lines.push(made(text(&any_add(random, 0xFF_FFFF))));
+    lines.push(made(text(&any_add(random, 0x100_0000))));
+    lines
+}
+
+/// What came before, at the same time, and after.
+pub const TIMES: [(&str, i64); 3] =
+    [("an earlier time", -1), ("an equal time", 0), ("a later time", 1)];
+
+fn add_of(random: &mut Random, address: u32, time: u64, grade: Grade) -> Made {
+    let altitude = any_altitude(random);
+    made(text(&Line::Add(Record { live: true, address, altitude, time, grade })))
+}
+
+/// Two replies about an address, by every order of their times and all grades: on a
+/// live record, and on one that was removed. Then lists about one address of few
+/// times, with other calls in between.
+fn graded(random: &mut Random) -> Vec<Made> {
+    let mut lines = Vec::new();
+    for (_, step) in TIMES {
+        for pair in GRADES.into_iter().flat_map(|first| GRADES.map(|second| [first, second])) {
+            let (address, time) = (random.word(), 1 + random.below(86_400_000) as u64);
+            let next = time.checked_add_signed(step).expect("a time");
+            lines.push(made("table 2 2".to_string()));
+            lines.push(add_of(random, address, time, pair[0]));
+            lines.push(add_of(random, address, next, pair[1]));
+            lines.push(made("show".to_string()));
+            lines.push(made(text(&Line::Remove(address))));
+            lines.push(add_of(random, address, time - 1, pair[1]));
+            lines.push(made(text(&Line::Find(address))));
+        }
+    }
+    for _ in 0..20 {
+        let address = random.word();
+        lines.push(made("table 4 4".to_string()));
+        for _ in 0..random.from_to(2, 12) {
+            let (time, grade) = (random.below(3) as u64, *random.pick(&GRADES));
+            lines.push(add_of(random, address, time, grade));
+            if random.one_in(3) {
+                lines.push(made(text(&any_call(random, 4))));
+            }
+        }
+        lines.push(made(text(&Line::Find(address))));
+    }
     lines
 }
 
 /// Forms that no line has: each is one step from one that a line has.
-pub const WRONG_FORMS: [&str; 34] = [
+pub const WRONG_FORMS: [&str; 43] = [
     "table 1025 1",
     "table 1 1025",
     "table 1",
@@ -314,20 +363,29 @@ pub const WRONG_FORMS: [&str; 34] = [
     "place 0 65536",
     "place 0 -1",
     "place 0",
-    "record 0 2 0 - 0",
-    "record 0 01 0 - 0",
-    "record 0 1 0 2147483648 0",
-    "record 0 1 0 -2147483649 0",
-    "record 0 1 000000000 - 0",
-    "record 0 1 0 - -",
+    "record 0 2 0 - 0 0",
+    "record 0 01 0 - 0 0",
+    "record 0 1 0 2147483648 0 0",
+    "record 0 1 0 -2147483649 0 0",
+    "record 0 1 000000000 - 0 0",
+    "record 0 1 0 - - 0",
     "record 0 1 0 -",
-    "record 0 1 0 - 0 0",
-    "add 0 -- 0",
-    "add 0 -0- 0",
-    "add - - 0",
-    "add a - 0",
-    "add 0 - 18446744073709551616",
+    "record 0 1 0 - 0",
+    "record 0 1 0 - 0 3",
+    "record 0 1 0 - 0 -",
+    "record 0 1 0 - 0 0 0",
+    "add 0 -- 0 0",
+    "add 0 -0- 0 0",
+    "add - - 0 0",
+    "add a - 0 0",
+    "add 0 - 18446744073709551616 0",
     "add 0 -",
+    "add 0 - 0",
+    "add 0 - 0 3",
+    "add 0 - 0 00",
+    "add 0 - 0 -1",
+    "add 0 - 0 0 0",
+    "add 0 - 0 A",
     "remove",
     "remove G",
     "find 100000000",
@@ -337,10 +395,11 @@ pub const WRONG_FORMS: [&str; 34] = [
 ];
 
 /// Names that no line has.
-pub const WRONG_NAMES: [&str; 5] = ["Clear", "shows", "sho", "clear\r", "addd 0 - 0"];
+pub const WRONG_NAMES: [&str; 5] = ["Clear", "shows", "sho", "clear\r", "addd 0 - 0 0"];
 
 fn columns(random: &mut Random) -> Vec<Column> {
-    let line = text(&Line::Add(random.word(), any_altitude(random), any_time(random)));
+    let address = random.word();
+    let line = text(&any_add(random, address));
     line.split(' ').map(|column| (Sort::Name, column.as_bytes().to_vec())).collect()
 }
 
@@ -380,6 +439,7 @@ pub fn round(random: &mut Random) -> Vec<Made> {
         lines.extend(mended(random, damage));
     }
     lines.extend(full_and_damaged(random));
+    lines.extend(graded(random));
     for _ in 0..40 {
         lines.push(Made::plain(any_line(random)));
     }

@@ -23,36 +23,39 @@ const ROUNDS: usize = 1000;
 
 const LENGTHS: [usize; 3] = [10, 100, 1000];
 
-type Map = BTreeMap<u32, (Option<i32>, u64)>;
+type Map = BTreeMap<u32, (Option<i32>, u64, u8)>;
 
-/// A sort of call: what its line says of an address, and what it does to a map.
+/// A sort of call: what its line says of an address at a time, and what it does to a
+/// map.
 struct Sort {
     name: &'static str,
-    lines: fn(u32) -> Vec<String>,
+    lines: fn(u32, usize) -> Vec<String>,
     on_map: fn(&mut Map, u32),
 }
 
 const SORTS: [Sort; 3] = [
     Sort {
         name: "find",
-        lines: |address| vec![format!("find {address:06X}")],
+        lines: |address, _| vec![format!("find {address:06X}")],
         on_map: |map, address| {
             black_box(map.get(&address));
         },
     },
     Sort {
         name: "renew",
-        lines: |address| vec![format!("add {address:06X} 1000 5")],
+        lines: |address, time| vec![format!("add {address:06X} 1000 {time} 0")],
         on_map: |map, address| {
-            black_box(map.insert(address, (Some(1000), 5)));
+            black_box(map.insert(address, (Some(1000), 5, 0)));
         },
     },
     Sort {
         name: "remove, or add",
-        lines: |address| vec![format!("remove {address:06X}"), format!("add {address:06X} 1000 5")],
+        lines: |address, _| {
+            vec![format!("remove {address:06X}"), format!("add {address:06X} 1000 5 0")]
+        },
         on_map: |map, address| {
             black_box(map.remove(&address));
-            black_box(map.insert(address, (Some(1000), 5)));
+            black_box(map.insert(address, (Some(1000), 5, 0)));
         },
     },
 ];
@@ -64,7 +67,7 @@ fn addresses(length: usize) -> Vec<u32> {
 
 /// A full table of a length.
 fn filling(length: usize) -> String {
-    let adds = addresses(length).into_iter().map(|address| format!("add {address:06X} 0 0\n"));
+    let adds = addresses(length).into_iter().map(|address| format!("add {address:06X} 0 0 0\n"));
     format!("table {length} {length}\n{}", adds.collect::<String>())
 }
 
@@ -75,7 +78,7 @@ fn inputs(sort: &Sort, length: usize) -> (String, String, usize) {
     let mut made = 0;
     'full: loop {
         for address in addresses(length) {
-            let lines = (sort.lines)(address);
+            let lines = (sort.lines)(address, 1 + made);
             if calls.len() + lines.iter().map(|line| line.len() + 1).sum::<usize>() > MOST_BYTES {
                 break 'full;
             }
@@ -94,8 +97,8 @@ fn inputs(sort: &Sort, length: usize) -> (String, String, usize) {
 /// Nanoseconds of a call on a map.
 fn on_map(sort: &Sort, length: usize) -> f64 {
     let addresses = addresses(length);
-    let mut map: Map = addresses.iter().map(|address| (*address, (Some(0), 0))).collect();
-    let calls = (sort.lines)(0).len() * addresses.len();
+    let mut map: Map = addresses.iter().map(|address| (*address, (Some(0), 0, 0))).collect();
+    let calls = (sort.lines)(0, 0).len() * addresses.len();
     let rounds = ROUNDS * LENGTHS[2] / length;
     let start = Instant::now();
     for _ in 0..rounds {

@@ -6,6 +6,7 @@ use crate::lines::Line;
 use crate::lines::Order;
 use crate::turns;
 use crate::turns::Turn;
+use rollcall::Grade;
 use rollcall::Reading;
 use rollcall::Record;
 use rollcall::Reply;
@@ -70,11 +71,12 @@ fn put_answer(out: &mut [u8], taken: usize, answer: Rolled) -> usize {
         Rolled::Removed => text::put_bytes(out, taken, b" removed"),
         Rolled::Found(_) => text::put_bytes(out, taken, b" found"),
         Rolled::Absent => text::put_bytes(out, taken, b" absent"),
+        Rolled::Held => text::put_bytes(out, taken, b" held"),
         Rolled::Refused(_) => text::put_bytes(out, taken, b" refused"),
     }
 }
 
-// The altitude and the time of a record that was found, or the number of a refusal.
+// The altitude, the time and the grade of a record that was found, or the number of a refusal.
 fn put_more(out: &mut [u8], taken: usize, answer: Rolled) -> usize {
     match answer {
         Rolled::Found(r) => put_found(out, taken, r),
@@ -85,10 +87,13 @@ fn put_more(out: &mut [u8], taken: usize, answer: Rolled) -> usize {
 
 fn put_found(out: &mut [u8], taken: usize, r: Record) -> usize {
     let altitude = r.altitude;
+    let grade = r.grade;
     let space = text::put_byte(out, taken, b' ');
     let feet = put_altitude(out, space, altitude);
     let next = text::put_byte(out, feet, b' ');
-    put_wide(out, next, r.time)
+    let time = put_wide(out, next, r.time);
+    let last = text::put_byte(out, time, b' ');
+    put_grade(out, last, grade)
 }
 
 fn put_refusal(out: &mut [u8], taken: usize, n: u32) -> usize {
@@ -144,18 +149,21 @@ pub(crate) fn put_place(out: &mut [u8], taken: usize, i: usize, p: u16) -> usize
     text::put_decimal(out, next, p as u32)
 }
 
-// LIVE:ADDRESS:ALTITUDE:TIME, the address in at least six digits.
+// LIVE:ADDRESS:ALTITUDE:TIME:GRADE, the address in at least six digits.
 pub(crate) fn put_record(out: &mut [u8], taken: usize, i: usize, r: Record) -> usize
     ensures { λ _. ⌜ length (now (out .exit)) ≡ length (now (out .entry)) ⌝ }
 {
     let altitude = r.altitude;
+    let grade = r.grade;
     let next = put_comma(out, taken, i);
     let live = put_live(out, next, r.live);
     let address = put_address(out, live, r.address);
     let middle = text::put_byte(out, address, b':');
     let feet = put_altitude(out, middle, altitude);
-    let last = text::put_byte(out, feet, b':');
-    put_wide(out, last, r.time)
+    let after = text::put_byte(out, feet, b':');
+    let time = put_wide(out, after, r.time);
+    let last = text::put_byte(out, time, b':');
+    put_grade(out, last, grade)
 }
 
 // Between two.
@@ -208,6 +216,10 @@ fn put_altitude(out: &mut [u8], taken: usize, altitude: Reading) -> usize {
         Reading::Known(feet) => text::put_signed(out, taken, feet),
         Reading::Missing => text::put_byte(out, taken, b'-'),
     }
+}
+
+fn put_grade(out: &mut [u8], taken: usize, grade: Grade) -> usize {
+    text::put_decimal(out, taken, rollcall_table::grade_number(grade))
 }
 
 // A number of 64 bits, in parts of nine digits.

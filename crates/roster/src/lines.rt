@@ -3,10 +3,12 @@ ghost use Prim.Native.Nat.{_≤_};
 ghost use mathlib.Core.Path.{_≡_};
 use crate::numbers::Number;
 use crate::numbers::feet_of;
+use crate::numbers::grade_of;
 use crate::numbers::is_address;
 use crate::numbers::number_of;
 use reading::after;
 use reading::find;
+use rollcall::Grade;
 use rollcall::Reading;
 use rollcall::Record;
 use rollcall::Sighting;
@@ -25,8 +27,8 @@ pub(crate) enum Order {
 }
 
 // The index is that of `place` and `record`, and the records that `table` asks for; the value is what `place` or `count`
-// sets, and the places that `table` asks for; the record holds what `record` sets, and the address, altitude and time of a
-// call. What a line lacks is zero.
+// sets, and the places that `table` asks for; the record holds what `record` sets, and the address, altitude, time and
+// grade of a call. What a line lacks is zero.
 pub(crate) struct Line {
     pub(crate) order: Order,
     pub(crate) index: u64,
@@ -111,7 +113,13 @@ fn read_address(order: Order, s: &[u8]) -> Line {
         of_record(
             order,
             0,
-            recorded(false, reading::hex_number(s), Reading::Missing, 0),
+            recorded(
+                false,
+                reading::hex_number(s),
+                Reading::Missing,
+                0,
+                Grade::Clean,
+            ),
         )
     } else {
         plain(Order::Malformed)
@@ -184,28 +192,32 @@ fn read_held(
     live: bool,
     address: &[u8],
     altitude: &[u8],
-    time: &[u8],
+    timed: &[u8],
 ) -> Line {
+    let end = find(timed, b' ');
     let feet = feet_of(altitude);
-    let when = number_of(time);
-    if is_address(address) && feet.fits && when.fits {
+    let when = number_of(&timed[0..end]);
+    let graded = grade_of(after(timed, end));
+    if is_address(address) && feet.fits && when.fits && graded.fits {
         let read = feet.reading;
+        let grade = graded.grade;
         of_record(
             order,
             index,
-            recorded(live, reading::hex_number(address), read, when.value),
+            recorded(live, reading::hex_number(address), read, when.value, grade),
         )
     } else {
         plain(Order::Malformed)
     }
 }
 
-fn recorded(live: bool, address: u32, altitude: Reading, time: u64) -> Record {
+fn recorded(live: bool, address: u32, altitude: Reading, time: u64, grade: Grade) -> Record {
     Record {
         live: live,
         address: address,
         altitude: altitude,
         time: time,
+        grade: grade,
     }
 }
 
@@ -299,9 +311,11 @@ pub(crate) fn sighting_of(line: Line) -> Sighting
 {
     let r = line.record;
     let altitude = r.altitude;
+    let grade = r.grade;
     Sighting {
         address: r.address,
         altitude: altitude,
         time: r.time,
+        grade: grade,
     }
 }

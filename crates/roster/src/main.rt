@@ -1,13 +1,13 @@
 // The roll-call table from outside, one table and a line a call, so that another implementation can be compared with the
 // built code. Input lines are a name and its arguments, parted by one space:
-//     table RECORDS PLACES, count N, place I V, record I LIVE ADDRESS ALTITUDE TIME set the table, also to what no call
-//     leaves; clear, add ADDRESS ALTITUDE TIME, remove ADDRESS, find ADDRESS are the calls; show prints the table
+//     table RECORDS PLACES, count N, place I V, record I LIVE ADDRESS ALTITUDE TIME GRADE set the table, also to what no call
+//     leaves; clear, add ADDRESS ALTITUDE TIME GRADE, remove ADDRESS, find ADDRESS are the calls; show prints the table
 // with numbers as 1 to 20 decimal digits, an altitude as such a number with `-` in front of a negative one, or `-` alone
-// where it is missing, LIVE as 0 or 1, and an address as 1 to 8 capital hexadecimal digits. What does not fit its width is
-// malformed. RECORDS and PLACES are at most 1024; such a table is all zero and not live, and the first is `table 16 16`.
-// Output columns: the line number from 1; the answer; the count after the line; then for `found` the altitude and the time,
-// for `refused` the number of the refusal, for `shown` the places and the records. An input above 65,536 bytes is too long,
-// and that is all that is said of it.
+// where it is missing, LIVE as 0 or 1, GRADE as 0 (clean), 1 (sole) or 2 (several), and an address as 1 to 8 capital
+// hexadecimal digits. What does not fit its width is malformed. RECORDS and PLACES are at most 1024; such a table is all zero
+// and not live, and the first is `table 16 16`. Output columns: the line number from 1; the answer; the count after the line;
+// then for `found` the altitude, the time and the grade, for `refused` the number of the refusal, for `shown` the places and
+// the records. An input above 65,536 bytes is too long, and that is all that is said of it.
 //
 // A program here has no exit status: what went wrong is said on standard error, and nothing else is. bin/roster ends with 1
 // where something was said.

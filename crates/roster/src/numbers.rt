@@ -1,6 +1,7 @@
 // The forms of the arguments, and the numbers that they write.
 ghost use Prim.Native.Nat.{_≤_, _<_};
 use reading::after;
+use rollcall::Grade;
 use rollcall::Reading;
 
 pub(crate) struct Number {
@@ -11,6 +12,11 @@ pub(crate) struct Number {
 pub(crate) struct Height {
     pub(crate) fits: bool,
     pub(crate) reading: Reading,
+}
+
+pub(crate) struct GradeRead {
+    pub(crate) fits: bool,
+    pub(crate) grade: Grade,
 }
 
 // 1 to 8 capital hexadecimal digits: a number of 32 bits, so that one above FFFFFF can be refused.
@@ -145,4 +151,22 @@ fn negative(size: u64) -> i32
 {
     let feet = size as i32;
     -feet
+}
+
+// A grade: 0 is clean, 1 sole, 2 several.
+pub(crate) fn grade_of(s: &[u8]) -> GradeRead {
+    if check::same(s, b"0") {
+        return graded(true, Grade::Clean);
+    }
+    if check::same(s, b"1") {
+        return graded(true, Grade::Sole);
+    }
+    graded(check::same(s, b"2"), Grade::Several)
+}
+
+fn graded(fits: bool, grade: Grade) -> GradeRead {
+    GradeRead {
+        fits: fits,
+        grade: grade,
+    }
 }

@@ -124,8 +124,8 @@ struct Room {
     written: bool,
 }
 
-// Writes the output buffer where a line more might not find room. The buffer has 65,536 bytes; the longest line has 51,235:
-// a number of five digits, ` shown `, a count of 20, 1024 places of five digits and 1024 records of 43 bytes, each with a
+// Writes the output buffer where a line more might not find room. The buffer has 65,536 bytes; the longest line has 53,281:
+// a number of five digits, ` shown `, a count of 20, 1024 places of five digits and 1024 records of 45 bytes, each with a
 // comma or a space, and a line feed.
 pub(crate) fn with_room(out: &[u8], t: Turn, count: usize) -> Turn
     ensures { λ r. ⌜ (r .at ≡ t .at) × (r .number ≡ t .number) ⌝ }
@@ -145,7 +145,7 @@ pub(crate) fn with_room(out: &[u8], t: Turn, count: usize) -> Turn
 }
 
 fn flushed(out: &[u8], taken: usize, written: bool) -> Room {
-    if 14000 < taken {
+    if 12000 < taken {
         Room {
             taken: 0,
             written: write(out, taken, written),

@@ -5,7 +5,7 @@ use native.Mathlib.Omega.{arith}
 use borrow.Rule.Slice.Mut.{setVals}
 use denote.Slice.{sliceTy}
 use Rattle.rollcall_table.specs.Table.{blank}
-use Rattle.rollcall.proofs.Kit.{Code, Me, Cx, Row, Outs, Env, EnvOf, rowsFrom, leases, tyR, tysP, Δret, some, withNext, inBlock₀, inLoop₀, any-gone, whole, rest, ℕ, _+_, _-_, _<_, _≤_, _≡_, refl, ap, _∙_, List, [], _∷_, _++_, length, URA, Ty, named, erased, w64, tyInt, tyBool, tyPtr, Heap, Tables, Atoms, Given, Lfts, Shares, givenOf, now, scaled-fits, ltb-true, ltb-false, Over, World, fix-len, vAt, mslice, reads-mslice, sslice, reads-sc, as-is, sInt, sBool, sPtr, sc-here, lease, dead, Rec, recOne, recCopy, Knows, gone, used, held, mutTo, immTo, n64, flag, immS, mutA, owedA, leftA, ptrA, keeps, _⟫_, meet, last, free, branch, blocks, loops, leaves, begins, relends, gathers, ends, backs, forgets, calls, num, lit, count, sets, less, plus, times, points, loads, copies, skips, returns, Walked, Asked, homes, known, by-walk}
+use Rattle.rollcall.proofs.Kit.{Code, Me, Cx, Row, Outs, Env, EnvOf, rowsFrom, leases, tyR, tysP, Δret, some, withNext, inBlock₀, inLoop₀, any-gone, whole, rest, ℕ, _+_, _-_, _<_, _≤_, _≡_, refl, ap, _∙_, List, [], _∷_, _++_, length, URA, Ty, named, erased, w64, tyInt, tyBool, tyPtr, Heap, Tables, Atoms, Given, Lfts, Shares, givenOf, now, scaled-fits, ltb-true, ltb-false, Over, World, fix-len, vAt, mslice, reads-mslice, sslice, reads-sc, as-is, sInt, sBool, sPtr, sc-here, lease, dead, Rec, recSize, recOne, recCopy, Knows, gone, used, held, mutTo, immTo, n64, flag, immS, mutA, owedA, leftA, ptrA, keeps, _⟫_, meet, last, free, branch, blocks, loops, leaves, begins, relends, gathers, ends, backs, forgets, calls, num, lit, count, sets, less, plus, times, points, loads, copies, skips, returns, Walked, Asked, homes, known, by-walk}
 use Rattle.roster.proofs.Types.{U8, Trn, trnOne, trnCopy}
 use Rattle.roster.proofs.Sigs.{shownS, openListS, putRecordS, putAllS}
 use Rattle.roster.proofs.answers.shown.Symbol as shown-def
@@ -55,9 +55,9 @@ module _ {M : Type 1} (𝓤 : URA M) (H : Heap 𝓤) (A : Atoms 𝓤) (W : Given
   turn =
       less 11 (num 6 n64 refl) (num 4 n64 refl) gone refl ⟫
       meet (branch 11 flag refl skips (free 11 (used sBool) leaves))
-      (times 12 (num 6 n64 refl) (lit 24 tt) gone refl ⟫
+      (times 12 (num 6 n64 refl) (lit recSize tt) gone refl ⟫
       points 13 1 (immS Rec (named 0) 0) (num 12 n64 refl) refl gone refl ⟫
-      loads recOne recCopy 1 13 14 0 (immTo (named 0) Rec) 24 (λ u. u .1 .1 .1 .1 .1 .1 .0) blank (λ x. x) (λ x. x) refl (as-is 𝓤 H A (sslice Rec (immTo (named 0) Rec) 0)) (as-is 𝓤 H A (sc-here sPtr)) gone tt refl refl ⟫
+      loads recOne recCopy 1 13 14 0 (immTo (named 0) Rec) recSize (λ u. u .1 .1 .1 .1 .1 .1 .0) blank (λ x. x) (λ x. x) refl (as-is 𝓤 H A (sslice Rec (immTo (named 0) Rec) 0)) (as-is 𝓤 H A (sc-here sPtr)) gone tt refl refl ⟫
       copies recOne recCopy 14 7 (keeps recOne recCopy) gone refl refl ⟫
       second)
 
@@ -94,7 +94,7 @@ module _ {M : Type 1} (𝓤 : URA M) (H : Heap 𝓤) (A : Atoms 𝓤) (W : Given
                   (
                     λ c.
                         let within : v .1 .1 < length rs = omega (arith, ltb-true (v .1 .1) (n .1) c, n .5) in (
-                          scaled-fits (v .1 .1) (length rs) 24 within (good .0 .1),
+                          scaled-fits (v .1 .1) (length rs) recSize within (good .0 .1),
                           (
                             tt,
                             (

@@ -5,7 +5,7 @@ use native.Mathlib.Omega.{arith}
 use borrow.Rule.Slice.Mut.{setVals}
 use Rattle.rollcall_table.specs.declared.Record.{Record}
 use Rattle.rollcall_table.specs.Table.{blank}
-use Rattle.rollcall.proofs.Kit.{ℕ, _+_, _-_, _<_, _≤_, _≡_, refl, ap, _∙_, subst, List, [], _∷_, _++_, length, set, length-set, URA, Ty, named, w64, tyInt, tyBool, tyPtr, Heap, Tables, Atoms, Given, Lfts, Shares, givenOf, now, scaled-fits, ltb-true, ltb-false, Over, World, fix-len, vAt, mslice, reads-sc, as-is, sInt, sBool, sPtr, sc-here, Rec, recOne, recCopy, Knows, gone, used, held, mutTo, n64, flag, mutS, keeps, _⟫_, meet, last, free, branch, blocks, loops, leaves, calls, num, lit, count, sets, less, plus, times, points, stores, loadsM, copies, unit, skips, returns, Walked, Asked, homes, known, by-walk}
+use Rattle.rollcall.proofs.Kit.{ℕ, _+_, _-_, _<_, _≤_, _≡_, refl, ap, _∙_, subst, List, [], _∷_, _++_, length, set, length-set, URA, Ty, named, w64, tyInt, tyBool, tyPtr, Heap, Tables, Atoms, Given, Lfts, Shares, givenOf, now, scaled-fits, ltb-true, ltb-false, Over, World, fix-len, vAt, mslice, reads-sc, as-is, sInt, sBool, sPtr, sc-here, Rec, recSize, recOne, recCopy, Knows, gone, used, held, mutTo, n64, flag, mutS, keeps, _⟫_, meet, last, free, branch, blocks, loops, leaves, calls, num, lit, count, sets, less, plus, times, points, stores, loadsM, copies, unit, skips, returns, Walked, Asked, homes, known, by-walk}
 use Rattle.roster.proofs.Types.{Lin, linOne, linCopy}
 use Rattle.roster.proofs.Sigs.{recordAfterS, setAllS}
 use Rattle.roster.proofs.lines.record_after.Symbol as record-after-def
@@ -27,14 +27,14 @@ module _ {M : Type 1} (𝓤 : URA M) (H : Heap 𝓤) (A : Atoms 𝓤) (W : Given
       (sets 5 (count 1 (mutS Rec (named 0) 0) refl) gone refl ⟫
       less 6 (num 3 n64 refl) (num 5 n64 refl) gone refl ⟫
       meet (branch 6 flag refl skips (free 5 (used (sInt w64)) (free 6 (used sBool) leaves)))
-      (times 5 (num 3 n64 refl) (lit 24 tt) (used (sInt w64)) refl ⟫
+      (times 5 (num 3 n64 refl) (lit recSize tt) (used (sInt w64)) refl ⟫
       points 7 1 (mutS Rec (named 0) 0) (num 5 n64 refl) refl gone refl ⟫
-      loadsM recOne recCopy 1 7 8 0 (mutTo (named 0) Rec) 24 (λ u. u .1 .1 .1 .0) blank (λ x. x) (λ x. x) refl (as-is 𝓤 H A (mslice Rec (mutTo (named 0) Rec) 0)) (as-is 𝓤 H A (sc-here sPtr)) gone tt refl refl ⟫
+      loadsM recOne recCopy 1 7 8 0 (mutTo (named 0) Rec) recSize (λ u. u .1 .1 .1 .0) blank (λ x. x) (λ x. x) refl (as-is 𝓤 H A (mslice Rec (mutTo (named 0) Rec) 0)) (as-is 𝓤 H A (sc-here sPtr)) gone tt refl refl ⟫
       copies recOne recCopy 8 4 (keeps recOne recCopy) gone refl refl ⟫
       calls recordAfterS record-after-def.name record-after (record { pos = 2; st = []; d = 0; at = λ x. x }, (vAt 3 (λ x. x), (record { pos = 4; st = []; d = 0; at = λ x. x }, tt))) 8 [] ((keeps {W = W} linOne linCopy .out, refl), ((reads-sc 𝓤 H A W (sInt w64), refl), ((keeps {W = W} recOne recCopy .out, refl), tt))) (held Rec) tt refl ⟫
-      times 5 (num 3 n64 refl) (lit 24 tt) (used (sInt w64)) refl ⟫
+      times 5 (num 3 n64 refl) (lit recSize tt) (used (sInt w64)) refl ⟫
       points 9 1 (mutS Rec (named 0) 0) (num 5 n64 refl) refl gone refl ⟫
-      stores recOne recCopy 1 9 8 0 (mutTo (named 0) Rec) 24 (λ u. u .1 .1 .1 .0) (λ x. x) (λ x. x) (keeps recOne recCopy) refl (as-is 𝓤 H A (mslice Rec (mutTo (named 0) Rec) 0)) (as-is 𝓤 H A (sc-here sPtr)) tt refl refl ⟫
+      stores recOne recCopy 1 9 8 0 (mutTo (named 0) Rec) recSize (λ u. u .1 .1 .1 .0) (λ x. x) (λ x. x) (keeps recOne recCopy) refl (as-is 𝓤 H A (mslice Rec (mutTo (named 0) Rec) 0)) (as-is 𝓤 H A (sc-here sPtr)) tt refl refl ⟫
       free 4 (held Rec) (free 5 (used (sInt w64)) (free 6 (used sBool) (free 7 (used sPtr) (free 8 (held Rec) (free 9 (used sPtr)
       (last (plus 3 (num 3 n64 refl) (lit 1 tt) (used (sInt w64)) refl)))))))))))
       (unit 0 gone refl ⟫ free 2 (held Lin) (free 3 (used (sInt w64)) returns))
@@ -50,7 +50,7 @@ module _ {M : Type 1} (𝓤 : URA M) (H : Heap 𝓤) (A : Atoms 𝓤) (W : Given
                 λ c.
                     let at = ltb-true (v .1) (length (v .0)) c in
                     let within = subst (λ (k : ℕ). v .1 < k) same at in
-                    let fits = scaled-fits (v .1) (length rs) 24 within (good .0 .1) in (
+                    let fits = scaled-fits (v .1) (length rs) recSize within (good .0 .1) in (
                       fits,
                       (
                         tt,
