@@ -8,4 +8,5 @@ pub mod Running
 pub mod Standing
 pub mod Refusing
 pub mod Replying
+pub mod Instances
 pub mod Laws

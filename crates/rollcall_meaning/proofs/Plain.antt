@@ -16,7 +16,7 @@ unfoldable pub Distinct : Entries → Type 0
 Distinct [] = Unit {0}
 Distinct (e ∷ m) = (lookup m (e .0) ≡ none) × Distinct m
 
-swap : (a b : ℕ) → eqb a b ≡ eqb b a
+pub swap : (a b : ℕ) → eqb a b ≡ eqb b a
 swap a b = by (eqb a b) refl
   where
     by : (t : Bool) → eqb a b ≡ t → t ≡ eqb b a

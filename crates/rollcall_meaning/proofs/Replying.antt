@@ -1,32 +1,30 @@
 -- Lists of calls and the reply that stands. The idea: what the map has of an address is the reply held so far; each call that
 -- takes nothing out either is a reply about the address, or leaves what the map has of it.
-use Prim.Native.Nat.{ℕ, _<_, _≤_}
-use native.Mathlib.Omega.{arith}
+use Prim.Native.Nat.{ℕ, _≤_}
 use mathlib.Core.Path.{_≡_, refl, sym, ap, _∙_, subst}
 use mathlib.Core.Bool.{Bool, true, false, not, cond, _&&_}
 use mathlib.Core.List.{List, [], _∷_, _++_}
 use mathlib.Core.Logic.{_⊎_, inl, inr}
 use mathlib.Core.Option.{Option, none, some}
-use lib.Dec.{eqb, ltb}
-use lib.ListN.{length, set}
-use borrow.Author.Tests.{eqb-true, eq-eqb, not-true, lt-ltb}
-use Rattle.outcome.specs.Outcomes.{Outcome, unless}
+use lib.Dec.{eqb}
+use borrow.Author.Tests.{eqb-true, eq-eqb, not-true}
+use Rattle.outcome.specs.Outcomes.{Outcome}
 use Rattle.outcome.specs.Outcomes.Outcome.{refusal, answer}
 use Rattle.outcome.proofs.Laws.{never, both, refusal-is-no-answer}
-use Rattle.message.specs.Message.{isWord}
 use Rattle.rollcall_table.specs.declared.Record.{Record}
 use Rattle.rollcall_table.specs.declared.Sighting.{Sighting}
 use Rattle.rollcall_table.specs.Standing.{beats, gradeNumber}
 use Rattle.rollcall_table.specs.Table.{recordOf, isIn, hasRoom}
-use Rattle.rollcall_plans.specs.Calls.{altitudeValues, found, absent, addAnswer, stands}
+use Rattle.rollcall_plans.specs.Calls.{altitudeValues, found, addAnswer, stands}
 use Rattle.rollcall_meaning.specs.Maps.{Value, valueOf, mapOf, told, standsOver, isSome, Call, Table, outcome, after}
 use Rattle.rollcall_meaning.specs.Maps.Call.{clear, add, remove, find}
 use Rattle.rollcall_meaning.specs.Keeping.{SoundTable, RightLengths, KeepsSound, ClearMends, FindGives, AddPuts, ClearEmpties}
-use Rattle.rollcall_meaning.specs.Standing.{Stands, afterAll, adds, allAbout, EarliestUnbeatenStands, noneTakesOut, replyAbout, repliesAbout, Found, StandsAmongOthers}
+use Rattle.rollcall_meaning.specs.Standing.{afterAll, adds, allAbout, EarliestUnbeatenStands, noneTakesOut, replyAbout, repliesAbout, Found, StandsAmongOthers}
 use Rattle.rollcall_meaning.proofs.Sounding.{keeps-sound, clear-mends}
 use Rattle.rollcall_meaning.proofs.Mapping.{some-in}
 use Rattle.rollcall_meaning.proofs.Changing.{find-gives, add-puts, clear-empties, add-passed, remove-spares}
 use Rattle.rollcall_meaning.proofs.Refusing.{add-leaves}
+use Rattle.rollcall_meaning.proofs.Plain.{swap}
 use Rattle.rollcall_meaning.proofs.Running.{cleared-room}
 use Rattle.rollcall_meaning.proofs.Standing.{later, heldAfter, held-stands}
 
@@ -80,8 +78,9 @@ record Has (a : ℕ) (t : Table) (o : Option Sighting) : Type 0 where
   maps : mapOf (t .records) a ≡ valued o
   about : About a o
 
-abbrev all : ℕ → Call → Outcome → Option Sighting → Option Sighting
-all a c r o = nexts o (replyAbout a c r)
+-- the reply held after a call that answers r
+abbrev nextBy : ℕ → Call → Outcome → Option Sighting → Option Sighting
+nextBy a c r o = nexts o (replyAbout a c r)
 
 kept-sound : (t : Table) (c : Call) → SoundTable t → SoundTable (after c t)
 unfolding KeepsSound
@@ -95,7 +94,7 @@ no-other : (b : Bool) (x y : Option Value) → cond (b && false) x y ≡ y
 no-other true x y = refl
 no-other false x y = refl
 
-has-add : (a : ℕ) (t : Table) (q : Sighting) (o : Option Sighting) (r : Outcome) → outcome (add q) t ≡ r → Has a t o → Has a (after (add q) t) (all a (add q) r o)
+has-add : (a : ℕ) (t : Table) (q : Sighting) (o : Option Sighting) (r : Outcome) → outcome (add q) t ≡ r → Has a t o → Has a (after (add q) t) (nextBy a (add q) r o)
 unfolding AddPuts
 has-add a t q o (refusal n) e h = record {
   is-sound = kept-sound t (add q) (h .is-sound);
@@ -118,29 +117,22 @@ has-add a t q o (answer n vs) e h = by (eqb (q .address) a) refl
         }
     by false c = record {
       is-sound = kept-sound t (add q) (h .is-sound);
-      maps = put ∙ ap (λ (x : Bool). cond (standsOver (valueOf (recordOf q)) (mapOf (t .records) (q .address)) && x) (some (valueOf (recordOf q))) (mapOf (t .records) a)) (swapped c)
+      maps = put ∙ ap (λ (x : Bool). cond (standsOver (valueOf (recordOf q)) (mapOf (t .records) (q .address)) && x) (some (valueOf (recordOf q))) (mapOf (t .records) a)) (swap a (q .address) ∙ c)
           ∙ no-other (standsOver (valueOf (recordOf q)) (mapOf (t .records) (q .address))) (some (valueOf (recordOf q))) (mapOf (t .records) a) ∙ h .maps;
       about = h .about;
     }
-      where
-        swapped : eqb (q .address) a ≡ false → eqb a (q .address) ≡ false
-        swapped f = at (eqb a (q .address)) refl
-          where
-            at : (b : Bool) → eqb a (q .address) ≡ b → b ≡ false
-            at true g = absurd (never (eq-eqb (q .address) a (sym (eqb-true a (q .address) g))) f)
-            at false g = refl
 
-more : (a : ℕ) (o : Option Sighting) (l m : List Sighting) → nexts (nexts o l) m ≡ nexts o (l ++ m)
-more a o [] m = refl
-more a o (q ∷ l) m = more a (next o q) l m
+nexts-append : (o : Option Sighting) (l m : List Sighting) → nexts (nexts o l) m ≡ nexts o (l ++ m)
+nexts-append o [] m = refl
+nexts-append o (q ∷ l) m = nexts-append (next o q) l m
 
 has-all : (a : ℕ) (cs : List Call) (t : Table) (o : Option Sighting) → noneTakesOut a cs ≡ true → Has a t o → Has a (afterAll cs t) (nexts o (repliesAbout a cs t))
 unfolding afterAll repliesAbout noneTakesOut after
 has-all a [] t o n h = h
 has-all a (clear ∷ cs) t o n h = absurd (never n refl)
 has-all a (add q ∷ cs) t o n h =
-    subst (Has a (afterAll cs (after (add q) t))) (more a o (replyAbout a (add q) (outcome (add q) t)) (repliesAbout a cs (after (add q) t)))
-    (has-all a cs (after (add q) t) (all a (add q) (outcome (add q) t) o) n (has-add a t q o (outcome (add q) t) refl h))
+    subst (Has a (afterAll cs (after (add q) t))) (nexts-append o (replyAbout a (add q) (outcome (add q) t)) (repliesAbout a cs (after (add q) t)))
+    (has-all a cs (after (add q) t) (nextBy a (add q) (outcome (add q) t) o) n (has-add a t q o (outcome (add q) t) refl h))
 has-all a (remove b ∷ cs) t o n h =
     let p = both (not (eqb b a)) (noneTakesOut a cs) n in
     has-all a cs (after (remove b) t) o (p .1) (record {

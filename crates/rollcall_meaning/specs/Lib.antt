@@ -1,4 +1,4 @@
--- Document 02, Point 4, sentence by sentence.
+-- Document 02, Points 4 and 12, sentence by sentence.
 pub mod Maps
 pub mod Keeping
 pub mod Running

@@ -19,7 +19,7 @@ use Rattle.rollcall_plans.specs.declared.Rolled.the-variants.{Cleared, A
 use Rattle.rollcall_plans.specs.declared.Spot.{Spot}
 use Rattle.rollcall_plans.specs.declared.Plan.{Plan}
 use Rattle.rollcall_table.specs.Table.{largest, blank, recordAt, rightLengths, isSound, holder, freePlace, isIn, hasRoom, unmarked, unmarkedAll, recordOf, position}
-use Rattle.rollcall_plans.specs.Calls.{said, found, added, renewed, absent, held, kept, addAnswer, push, pull, opened, closed, clearOutcome, clearCount, clearRecords, findOutcome, removeOutcome, removeCount, removeRecords, removePlaces, addOutcome, addCount, addRecords, addPlaces}
+use Rattle.rollcall_plans.specs.Calls.{said, found, renewed, absent, held, kept, addAnswer, push, pull, opened, closed, clearOutcome, clearCount, clearRecords, findOutcome, removeOutcome, removeCount, removeRecords, removePlaces, addOutcome, addCount, addRecords, addPlaces}
 use Rattle.rollcall_plans.specs.Plans.{nowhereOf, spotAt, spotOf, foundBy, removalOf, additionOf, rearranged}
 use Rattle.rollcall_table.specs.Checks.{raisedOf}
 use Rattle.rollcall_table.specs.Standing.{recordBeats}
