@@ -1,11 +1,11 @@
--- The degrees of products with the generator, and of quotients.
+-- The degrees of products and of quotients.
 use mathlib.Core.Path.{_≡_, sym, ap, _∙_, subst}
 use Prim.Native.Nat.{ℕ, zero, suc, _+_, _*_, _/_, _%_, _^_, _<_}
-use native.Mathlib.Nat.{mod-lt, pow-suc, lt-of-lt-of-le}
+use native.Mathlib.Nat.{mod-lt, pow-suc, lt-of-lt-of-le, zero-mul, one-mul, le-of-suc-le-suc, not-suc-le-zero}
 use native.Mathlib.Omega.{arith}
 use lib.Dec.{lit<}
 use lib.Bits.{xor-lt}
-use lib.Pow.{pow-mono}
+use lib.Pow.{pow-pos, pow-mono}
 use Rattle.division.specs.Polynomial.{product}
 use Rattle.division.specs.Division.{generator, quotient, remainder}
 use Rattle.division.proofs.Dividing.{product-zero, product-step, quotient-small, quotient-step, remainder-lt}
@@ -14,17 +14,26 @@ use Rattle.division.proofs.Shifting.{generator-lt}
 half-lt : (n k : ℕ) → n < 2 ^ suc k → n / 2 < 2 ^ k
 half-lt n k h = let s : 2 ^ suc k ≡ 2 ^ k * 2 = pow-suc 2 k in omega arith
 
--- a product of k coefficients with the generator
-pub product-lt : (k q : ℕ) → q < 2 ^ k → product q generator < 2 ^ (24 + k)
-product-lt zero q h =
-    let z : q ≡ 0 = omega arith in subst (λ (n : ℕ). n < 2 ^ 24) (sym (ap (λ (x : ℕ). product x generator) z ∙ product-zero generator)) (lit< tt)
-product-lt (suc k) q h =
-    subst (λ (n : ℕ). n < 2 ^ (24 + suc k)) (sym (product-step q generator))
-    (xor-lt (24 + suc k) (product (q / 2) generator * 2) (q % 2 * generator) (doubled (product-lt k (q / 2) (half-lt q k h)))
-    (lt-of-lt-of-le (generator-lt (q % 2) (mod-lt q (lit< tt))) (pow-mono {i = 25} {j = 24 + suc k} (omega arith))))
+-- a product of k coefficients with a polynomial of degree d
+pub product-below : (d k q g : ℕ) → g < 2 ^ suc d → q < 2 ^ k → product q g < 2 ^ (d + k)
+product-below d zero q g hg h =
+    let z : q ≡ 0 = omega arith in subst (λ (n : ℕ). n < 2 ^ (d + zero)) (sym (ap (λ (x : ℕ). product x g) z ∙ product-zero g)) (pow-pos (d + zero))
+product-below d (suc k) q g hg h =
+    subst (λ (n : ℕ). n < 2 ^ (d + suc k)) (sym (product-step q g))
+    (xor-lt (d + suc k) (product (q / 2) g * 2) (q % 2 * g) (doubled (product-below d k (q / 2) g hg (half-lt q k h)))
+    (lt-of-lt-of-le (one-of (q % 2) (mod-lt q (lit< tt))) (pow-mono {i = suc d} {j = d + suc k} (omega arith))))
   where
-    doubled : product (q / 2) generator < 2 ^ (24 + k) → product (q / 2) generator * 2 < 2 ^ (24 + suc k)
-    doubled l = let s : 2 ^ suc (24 + k) ≡ 2 ^ (24 + k) * 2 = pow-suc 2 (24 + k) in subst (λ (e : ℕ). product (q / 2) generator * 2 < 2 ^ e) {x = suc (24 + k)} {y = 24 + suc k} (omega arith) (omega arith)
+    doubled : product (q / 2) g < 2 ^ (d + k) → product (q / 2) g * 2 < 2 ^ (d + suc k)
+    doubled l = let s : 2 ^ suc (d + k) ≡ 2 ^ (d + k) * 2 = pow-suc 2 (d + k) in subst (λ (e : ℕ). product (q / 2) g * 2 < 2 ^ e) {x = suc (d + k)} {y = d + suc k} (omega arith) (omega arith)
+
+    one-of : (t : ℕ) → t < 2 → t * g < 2 ^ suc d
+    one-of zero l = subst (λ (n : ℕ). n < 2 ^ suc d) (sym (zero-mul g)) (pow-pos (suc d))
+    one-of (suc zero) l = subst (λ (n : ℕ). n < 2 ^ suc d) (sym (one-mul g)) hg
+    one-of (suc (suc t)) l = absurd (not-suc-le-zero (le-of-suc-le-suc (le-of-suc-le-suc l)))
+
+-- with the generator
+pub product-lt : (k q : ℕ) → q < 2 ^ k → product q generator < 2 ^ (24 + k)
+product-lt k q h = product-below 24 k q generator (subst (λ (g : ℕ). g < 2 ^ 25) (one-mul generator) (generator-lt 1 (lit< tt))) h
 
 -- the quotient of 24 + k coefficients
 pub quotient-lt : (k a : ℕ) → a < 2 ^ (24 + k) → quotient a < 2 ^ k

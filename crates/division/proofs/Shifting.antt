@@ -3,7 +3,7 @@
 -- can be undone modulo the generator, since the generator has the constant term 1.
 use mathlib.Core.Path.{_≡_, refl, sym, ap, ap₂, _∙_, subst}
 use Prim.Native.Nat.{ℕ, zero, suc, _+_, _*_, _/_, _%_, _^_, _<_}
-use native.Mathlib.Nat.{le-of-suc-le-suc, not-suc-le-zero, mod-lt, zero-lt-suc, zero-mul, mul-one, one-mul, mul-assoc, mul-comm, pow-suc, div-add-mod', div-lt-iff-lt-mul, mul-mod-left, mul-div-cancel}
+use native.Mathlib.Nat.{le-of-suc-le-suc, not-suc-le-zero, mod-lt, zero-lt-suc, zero-mul, mul-one, one-mul, mul-assoc, mul-comm, add-zero, pow-suc, div-add-mod', div-lt-iff-lt-mul, mul-mod-left, mul-div-cancel}
 use native.Mathlib.Omega.{arith}
 use lib.Dec.{lit<}
 use lib.Pow.{pow-add}
@@ -82,6 +82,10 @@ parity-extend m k b h =
 pub parity-zero : parity 0 ≡ 0
 unfolding parity
 parity-zero = remainder-zero
+
+pub parity-xor : (m n : ℕ) → parity (bitXor m n) ≡ bitXor (parity m) (parity n)
+unfolding parity
+parity-xor m n = ap remainder (xor-shl m n 24) ∙ remainder-xor (m * 2 ^ 24) (n * 2 ^ 24)
 
 pub parity-lt : (m : ℕ) → parity m < 2 ^ 24
 unfolding parity
@@ -200,3 +204,11 @@ shiftIn-byte r b hr hb =
     (xor-comm (r % 65536 * 256) (r / 65536 * 2 ^ 24)
     ∙ xor-shifted (r / 65536) 24 (r % 65536 * 256) (omega arith)
     ∙ whole))
+
+-- R of x^8·M from R of M: one step of the byte table with nothing entering
+pub parity-byte-on : (m r : ℕ) → r ≡ parity m → bitXor (r % 65536 * 256) (parity (r / 65536)) ≡ parity (m * 2 ^ 8)
+parity-byte-on m r e =
+    ap (λ (t : ℕ). bitXor (r % 65536 * 256) (parity t)) (sym (xor-zero-r (r / 65536)))
+    ∙ shiftIn-byte r 0 (subst (λ (n : ℕ). n < 2 ^ 24) (sym e) (parity-lt m)) (lit< tt)
+    ∙ ap (λ (n : ℕ). shiftIn 8 n 0) e
+    ∙ sym (parity-extend m 8 0 (lit< tt)) ∙ ap parity (add-zero (m * 2 ^ 8))

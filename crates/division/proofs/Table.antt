@@ -1,12 +1,15 @@
 -- A table's rule is one computed test over all its entries (the crate outcome's proofs/Testing.antt). The checker computes
 -- remainders by `quick`, which is the long division of the definition without its quotient, with the generator as a literal,
 -- and with no sum where there is nothing to take away.
-use mathlib.Core.Path.{_≡_, refl, sym, _∙_, ap}
-use Prim.Native.Nat.{ℕ, zero, suc, _+_, _*_, _/_, _%_, _^_}
-use native.Mathlib.Nat.{zero-mul}
+use mathlib.Core.Path.{_≡_, refl, sym, _∙_, ap, ap₂}
+use mathlib.Core.List.{List, [], _∷_}
+use Prim.Native.Nat.{ℕ, zero, suc, _+_, _*_, _/_, _%_, _^_, _<_}
+use native.Mathlib.Nat.{zero-mul, zero-add, add-zero, add-suc, suc-add, le-of-suc-le-suc, not-suc-le-zero}
+use lib.ListN.{getD}
 use lib.Bits.{bitXor, xor-zero-r}
 use Rattle.division.specs.Polynomial.{downwards}
-use Rattle.division.specs.Division.{generator, reduce, divide, remainder}
+use Rattle.division.specs.Division.{generator, reduce, divide, remainder, parity}
+use Rattle.division.specs.Tables.{paritiesFrom, byteTable, IsByteTable}
 use Rattle.division.proofs.Dividing.{generator-is, remainder-double}
 
 -- `reduce` where q is the coefficient x^24 of v: most often there is nothing to add
@@ -43,3 +46,28 @@ quickDown-is (suc b) (suc n) =
 pub quick-is : (a : ℕ) → quick a ≡ remainder a
 unfolding quick remainder divide
 quick-is a = quickDown-is a a
+
+-- ---- the byte table
+
+unfoldable pub quickFrom : ℕ → ℕ → List ℕ
+quickFrom k zero = []
+quickFrom k (suc n) = quick (k * 2 ^ 24) ∷ quickFrom (suc k) n
+
+quick-from : (n k : ℕ) → quickFrom k n ≡ paritiesFrom k n
+unfolding quickFrom paritiesFrom parity
+quick-from zero k = refl
+quick-from (suc n) k = ap₂ (λ (r : ℕ) (l : List ℕ). r ∷ l) (quick-is (k * 2 ^ 24)) (quick-from n (suc k))
+
+pub quick-table : quickFrom 0 256 ≡ byteTable
+unfolding byteTable
+quick-table = quick-from 256 0
+
+entry-from : (n k j : ℕ) → j < n → getD (paritiesFrom k n) j 0 ≡ parity (k + j)
+unfolding paritiesFrom
+entry-from zero k j h = absurd (not-suc-le-zero h)
+entry-from (suc n) k zero h = ap parity (sym (add-zero k))
+entry-from (suc n) k (suc j) h = entry-from n (suc k) j (le-of-suc-le-suc h) ∙ ap parity (suc-add k j ∙ sym (add-suc k j))
+
+pub byte-table-rule : (t : List ℕ) → t ≡ byteTable → IsByteTable t
+unfolding IsByteTable byteTable
+byte-table-rule t e k h = ap (λ (l : List ℕ). getD l k 0) e ∙ entry-from 256 0 k h ∙ ap parity (zero-add k)

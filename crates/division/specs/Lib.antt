@@ -3,5 +3,6 @@ pub mod Polynomial
 pub mod Division
 pub mod Ways
 pub mod Answers
--- What only private functions cite.
 pub mod Tables
+-- What only private functions cite.
+pub mod Folds

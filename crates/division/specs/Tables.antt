@@ -1,10 +1,18 @@
--- The rules of the two tables, which the private functions that are lent one require of it. Only private functions cite
--- this file: no public contract names a table.
-use Prim.Native.Nat.{ℕ, _-_, _^_, _<_}
+-- The byte table, and the rules of the two tables, which the private functions that are lent one require of it.
+use Prim.Native.Nat.{ℕ, zero, suc, _-_, _^_, _<_}
 use mathlib.Core.Path.{_≡_}
-use mathlib.Core.List.{List}
+use mathlib.Core.List.{List, [], _∷_}
 use lib.ListN.{getD}
 use Rattle.division.specs.Division.{remainder, parity}
+
+-- R of each byte from k on, of so many.
+unfoldable pub paritiesFrom : ℕ → ℕ → List ℕ
+paritiesFrom k zero = []
+paritiesFrom k (suc n) = parity k ∷ paritiesFrom (suc k) n
+
+-- 'a table of 256 remainders, one for each byte value' (document 01)
+unfoldable pub byteTable : List ℕ
+byteTable = paritiesFrom 0 256
 
 -- Entry k of the byte table is R of the one byte k.
 unfoldable pub IsByteTable : List ℕ → Type 0

@@ -4,7 +4,7 @@ ghost use mathlib.Core.Path.{_≡_};
 ghost use Rattle.division.specs.Division.{parity};
 ghost use Rattle.division.specs.Ways.{tableStep, tableWay};
 ghost use Rattle.message.specs.Message.{number};
-ghost use Rattle.division.specs.Tables.{IsByteTable};
+ghost use Rattle.division.specs.Tables.{byteTable, IsByteTable};
 ghost use Rattle.division.specs.Answers.{said, parityAnswer};
 use crate::Word;
 use crate::wide;
@@ -269,6 +269,13 @@ const TABLE: [u32; 256] = [
     0xFA0480,
 ];
 
+// The table itself, for a caller that divides many messages: entry k is R of the byte k.
+pub fn byte_remainders() -> [u32; 256]
+    ensures { λ t. ⌜ t ≡ byteTable ⌝ }
+{
+    TABLE
+}
+
 // The register after the eight bits of a byte: the byte that leaves it and the byte that enters pick one entry.
 fn shift_byte_by_table(table: &[u32; 256], r: u32, byte: u8) -> u32
     requires { ⌜ IsByteTable (now table) ⌝ }
@@ -300,7 +307,7 @@ fn by_byte_table(table: &[u32; 256], field: &[u8]) -> u32
 pub(crate) fn field_parity(field: &[u8]) -> u32
     ensures { λ r. ⌜ r ≡ parity (number (now (field .entry))) ⌝ }
 {
-    let table = TABLE;
+    let table = byte_remainders();
     by_byte_table(&table, field)
 }
 

@@ -8,12 +8,16 @@ ghost use Prim.Native.Nat.{_<_};
 ghost use mathlib.Core.Path.{_≡_};
 
 mod byte_table;
+mod folding;
 mod overlay;
 mod register;
 mod remainder;
 mod rows;
+mod words;
 
+pub use byte_table::byte_remainders;
 pub use byte_table::parity_by_bytes;
+pub use folding::parity_by_folding;
 pub use overlay::uplink_overlay;
 pub use register::parity_by_register;
 pub use register::register_back;

@@ -3,7 +3,6 @@ ghost use Prim.Native.Nat.{_<_, _^_};
 ghost use mathlib.Core.Path.{_≡_};
 ghost use Rattle.division.specs.Division.{overlay};
 ghost use Rattle.division.specs.Answers.{said, overlayAnswer};
-use crate::GENERATOR;
 use crate::Word;
 use message::is_word;
 
@@ -18,21 +17,16 @@ pub fn uplink_overlay(a: u32) -> Word
     }
 }
 
-// The product, one coefficient of A at a step from the highest on, and its upper half.
+// The upper half of the sum of A's shifts by the powers of G. Those by 24 down to 12, each one less, are summed by doubling how
+// many there are.
 fn overlay_of(a: u32) -> u32
     requires { ⌜ a < 2 ^ 24 ⌝ }
     ensures { λ r. ⌜ r ≡ overlay a ⌝ }
 {
-    let address = a as u64;
-    let generator = GENERATOR as u64;
-    let mut product: u64 = 0;
-    let mut left: u32 = 24;
-    while 0 < left {
-        left -= 1;
-        let bit = (address >> left) % 2;
-        let doubled = product * 2;
-        let added = bit * generator;
-        product = doubled ^ added;
-    }
-    (product / 0x1000000 % 0x1000000) as u32
+    let two = a ^ (a / 0x2);
+    let four = two ^ (two / 0x4);
+    let eight = four ^ (four / 0x10);
+    let twelve = eight ^ (four / 0x100);
+    let last = (a / 0x1000) ^ (a / 0x4000) ^ (a / 0x200000);
+    twelve ^ last
 }

@@ -82,6 +82,9 @@ pub fn parity_by_register(field: &[u8]) -> Word
     }
 }
 
+// What is left of the generator when it is divided by x: its lowest coefficient meets that of an odd word.
+const HALF_GENERATOR: u32 = 0xFFFA04;
+
 // The word whose product with x has the remainder r.
 pub fn register_back(r: u32) -> Word
     ensures { λ w. ⌜ said w ≡ backwardAnswer r ⌝ }
@@ -97,7 +100,10 @@ fn unshift_bit(r: u32) -> u32
     requires { ⌜ r < 2 ^ 24 ⌝ }
     ensures { λ s. ⌜ s ≡ backward r ⌝ }
 {
-    let leaving = r % 2;
-    let added = leaving * GENERATOR;
-    (r ^ added) / 2
+    let half = r / 2;
+    if r % 2 == 1 {
+        half ^ HALF_GENERATOR
+    } else {
+        half
+    }
 }

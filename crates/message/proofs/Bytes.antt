@@ -46,6 +46,11 @@ number-append (x ∷ xs) ys =
 pub number-split : (n : ℕ) (l : List ℕ) → number l ≡ number (take n l) * 2 ^ (8 * length (drop n l)) + number (drop n l)
 number-split n l = ap number (sym (take-append-drop n l)) ∙ number-append (take n l) (drop n l)
 
+-- with n bytes after the first k
+pub number-joined : (k n : ℕ) (l : List ℕ) → length l ≡ k + n → number (take k l) * 2 ^ (8 * n) + number (drop k l) ≡ number l
+number-joined k n l h =
+    sym (number-split k l ∙ ap (λ (j : ℕ). number (take k l) * 2 ^ (8 * j) + number (drop k l)) (length-drop k l ∙ omega arith))
+
 -- a byte that goes from a list to the number before it
 pub number-append-byte : (n b : ℕ) (l : List ℕ) → n * 2 ^ (8 * length (b ∷ l)) + number (b ∷ l) ≡ (n * 2 ^ 8 + b) * 2 ^ (8 * length l) + number l
 unfolding number
@@ -86,6 +91,13 @@ number-message m h =
     number-split (length m - 3) m
     ∙ ap (λ (n : ℕ). number (take (length m - 3) m) * 2 ^ (8 * n) + number (drop (length m - 3) m)) (parityField-length m h)
 
+pub number-two : (p : List ℕ) → length p ≡ 2 → getD p 0 0 * 256 + getD p 1 0 ≡ number p
+unfolding number
+number-two [] h = absurd (omega arith)
+number-two (a ∷ []) h = absurd (omega arith)
+number-two (a ∷ b ∷ []) h = omega arith
+number-two (a ∷ b ∷ c ∷ p) h = absurd (omega arith)
+
 pub number-three : (p : List ℕ) → length p ≡ 3 → getD p 0 0 * 65536 + getD p 1 0 * 256 + getD p 2 0 ≡ number p
 unfolding number
 number-three [] h = absurd (omega arith)
@@ -93,6 +105,15 @@ number-three (a ∷ []) h = absurd (omega arith)
 number-three (a ∷ b ∷ []) h = absurd (omega arith)
 number-three (a ∷ b ∷ c ∷ []) h = omega arith
 number-three (a ∷ b ∷ c ∷ d ∷ p) h = absurd (omega arith)
+
+pub number-four : (p : List ℕ) → length p ≡ 4 → getD p 0 0 * 16777216 + getD p 1 0 * 65536 + getD p 2 0 * 256 + getD p 3 0 ≡ number p
+unfolding number
+number-four [] h = absurd (omega arith)
+number-four (a ∷ []) h = absurd (omega arith)
+number-four (a ∷ b ∷ []) h = absurd (omega arith)
+number-four (a ∷ b ∷ c ∷ []) h = absurd (omega arith)
+number-four (a ∷ b ∷ c ∷ d ∷ []) h = omega arith
+number-four (a ∷ b ∷ c ∷ d ∷ e ∷ p) h = absurd (omega arith)
 
 -- ---- the next bit of a number, from the top
 
@@ -126,6 +147,10 @@ number-lt [] h = lit< tt
 number-lt (x ∷ l) h =
     subst (λ (b : ℕ). x * 2 ^ (8 * length l) + number l < b) (byte-more (length l))
     (digits-lt (h zero) (number-lt l (λ i. h (suc i))))
+
+pub number-part-lt : (k n : ℕ) (l : List ℕ) → Bytes l → length l ≡ k + n → number (drop k l) < 2 ^ (8 * n)
+number-part-lt k n l h e =
+    subst (λ (j : ℕ). number (drop k l) < 2 ^ (8 * j)) (length-drop k l ∙ omega arith) (number-lt (drop k l) (bytes-drop k l h))
 
 pub parityField-lt : (m : List ℕ) → 3 ≤ length m → Bytes m → number (parityField m) < 2 ^ 24
 unfolding parityField

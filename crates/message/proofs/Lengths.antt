@@ -44,6 +44,21 @@ pub long-length : (n : ℕ) → n ≡ 14 → isMessageLength n ≡ true
 unfolding isMessageLength
 long-length n e = ap isMessageLength e
 
+-- one that is not short is long
+pub long-message : (n : ℕ) → isMessageLength n ≡ true → (n ≡ 7 → ⊥) → n ≡ 14
+long-message n e other = cases (message-length n e)
+  where
+    cases : (n ≡ 7) ⊎ (n ≡ 14) → n ≡ 14
+    cases (inl p) = absurd (other p)
+    cases (inr p) = p
+
+pub long-field : (n : ℕ) → isFieldLength n ≡ true → (n ≡ 4 → ⊥) → n ≡ 11
+long-field n e other = cases (field-sizes n e)
+  where
+    cases : (n ≡ 4) ⊎ (n ≡ 11) → n ≡ 11
+    cases (inl p) = absurd (other p)
+    cases (inr p) = p
+
 pub field-length-le : (n : ℕ) → isFieldLength n ≡ true → n ≤ 11
 field-length-le n e = cases (field-sizes n e)
   where

@@ -5,7 +5,6 @@ use borrow.Author.Needs.{needs}
 use Rattle.division.specs.Answers.{addressAnswer}
 use Rattle.division.specs.Division.{addressRead}
 use Rattle.outcome.proofs.Laws.{refused, passed-value}
-use Rattle.message.proofs.Laws.{message-length-ge}
 use Rattle.division.proofs.Dividing.{remainder-lt}
 use Rattle.division.proofs.Reading.{addressRead-remainder}
 use Rattle.division.proofs.remainder.address_read.Statement.{statement}
@@ -15,7 +14,7 @@ is-message-length-requires : tie.Need-is-message-length-requires
 is-message-length-requires c κs = search needs
 
 remainder-of-requires : tie.Need-remainder-of-requires
-remainder-of-requires c κs = message-length-ge _ (sym (c .before .is-message-length .ensures) ∙ c .if1 .taken)
+remainder-of-requires c κs = sym (c .before .is-message-length .ensures) ∙ c .if1 .taken
 
 address-of-requires : tie.Need-address-of-requires
 address-of-requires c κs = subst (λ (r : ℕ). r < 2 ^ 24) (sym (c .remainder-of .ensures)) (remainder-lt _)

@@ -3,7 +3,6 @@ use mathlib.Core.Path.{sym, _∙_}
 use borrow.Author.Needs.{needs}
 use Rattle.division.specs.Answers.{remainderAnswer}
 use Rattle.outcome.proofs.Laws.{refused, passed-value}
-use Rattle.message.proofs.Laws.{message-length-ge}
 use Rattle.division.proofs.remainder.message_remainder.Statement.{statement}
 use Rattle.division.proofs.remainder.message_remainder.Tie as tie
 
@@ -11,7 +10,7 @@ is-message-length-requires : tie.Need-is-message-length-requires
 is-message-length-requires c κs = search needs
 
 remainder-of-requires : tie.Need-remainder-of-requires
-remainder-of-requires c κs = message-length-ge _ (sym (c .before .is-message-length .ensures) ∙ c .if1 .taken)
+remainder-of-requires c κs = sym (c .before .is-message-length .ensures) ∙ c .if1 .taken
 
 returns : tie.Need-returns
 unfolding remainderAnswer

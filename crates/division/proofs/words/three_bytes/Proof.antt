@@ -1,11 +1,11 @@
--- `division::remainder::three_bytes` meets its contract.
+-- `division::words::three_bytes` meets its contract.
 use mathlib.Core.Path.{ap, ap₂, _∙_}
 use Prim.Native.Nat.{ℕ, _+_, _*_}
 use lib.ListN.{getD}
 use borrow.Author.Needs.{needs}
 use Rattle.message.proofs.Laws.{number-three}
-use Rattle.division.proofs.remainder.three_bytes.Statement.{statement}
-use Rattle.division.proofs.remainder.three_bytes.Tie as tie
+use Rattle.division.proofs.words.three_bytes.Statement.{statement}
+use Rattle.division.proofs.words.three_bytes.Tie as tie
 
 shared-slice-read-wide : tie.Need-shared-slice-read-wide
 shared-slice-read-wide c = search needs
