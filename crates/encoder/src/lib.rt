@@ -100,7 +100,7 @@ fn field_parity(field: &[u8]) -> u32
     requires { ⌜ isFieldLength (length (now field)) ≡ true ⌝ }
     ensures { λ r. ⌜ r ≡ parity (number (now (field .entry))) ⌝ }
 {
-    let answer = division::parity_by_bytes(field);
+    let answer = division::parity_by_folding(field);
     match answer {
         Word::Value(r) => r,
         Word::Refused(_) => 0,

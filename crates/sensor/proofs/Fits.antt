@@ -14,9 +14,9 @@ use borrow.Author.Tests.{eqb-true, eqb-false, eq-eqb, ne-eqb}
 use Rattle.outcome.proofs.Laws.{never, positive}
 use Rattle.division.specs.Division.{remainder, backward}
 use Rattle.division.proofs.Laws.{remainder-zero, remainder-small, remainder-shl, backward-is, backward-lt, shl-suc, shl-shl, shl-comm}
-use Rattle.sensor.specs.Verdicts.{firstOf, highest, candidate, changeAt, fitsAt}
+use Rattle.sensor.specs.Verdicts.{Found, firstOf, highest, candidate, changeAt, fitsAt}
 use Rattle.sensor.specs.Verdicts.Found.{nowhere, at}
-use Rattle.sensor.specs.Searching.{Sound, counted, noted, kept, visited, searchTo}
+use Rattle.sensor.specs.Searching.{isFound, orElse, Sound, counted, noted, kept, visited, searchTo}
 use Rattle.sensor.specs.declared.search.Search.{Search}
 
 -- ---- the candidate
@@ -61,6 +61,19 @@ highest-past t k (suc n) h =
     ap (highest t) (add-suc k n)
     ∙ ap (λ (b : Bool). firstOf b (k + n) (highest t (k + n))) (h (k + n) (omega arith) (omega arith))
     ∙ highest-past t k n (λ e l u. h e l (omega arith))
+
+-- what was found above some places, or else what is found there
+pub or-else-next : (b : Bool) (k : ℕ) (f g : Found) → orElse (firstOf b k f) g ≡ firstOf b k (orElse f g)
+or-else-next true k f g = refl
+or-else-next false k f g = refl
+
+pub found-above : (f g h : Found) → isFound f ≡ true → orElse f g ≡ h → f ≡ h
+found-above nowhere g h p e = absurd (never p refl)
+found-above (at k) g h p e = e
+
+pub none-above : (f g h : Found) → isFound f ≡ false → orElse f g ≡ h → g ≡ h
+none-above nowhere g h p e = e
+none-above (at k) g h p e = absurd (never refl p)
 
 pub highest-none : (t : ℕ → Bool) (k : ℕ) → ((e : ℕ) → e < k → t e ≡ false) → highest t k ≡ nowhere
 highest-none t k h =

@@ -1,7 +1,7 @@
 -- What the search of the code holds after some places: cited by private functions alone. That it ends with what
 -- Verdicts.antt defines is the law `search-seen` (proofs/Fits.antt).
 use Prim.Native.Nat.{ℕ, zero, suc, _*_, _^_, _<_, _≤_}
-use mathlib.Core.Bool.{Bool, cond}
+use mathlib.Core.Bool.{Bool, true, false, cond}
 use lib.Dec.{eqb}
 use Rattle.division.specs.Division.{backward}
 use Rattle.sensor.specs.Verdicts.{soleMark, severalMark, Found}
@@ -13,6 +13,15 @@ use Rattle.sensor.specs.declared.search.Search.{Search}
 abbrev pub foundOf : Spot → Found
 foundOf Nowhere = nowhere
 foundOf (At e) = at e
+
+-- Whether a place was found; and a place, or another where there is none.
+abbrev pub isFound : Found → Bool
+isFound nowhere = false
+isFound (at e) = true
+
+abbrev pub orElse : Found → Found → Found
+orElse nowhere g = g
+orElse (at e) g = at e
 
 -- The numbers of a state are in range before place e: the candidate is a nonzero word, and so is the pattern of a fit at a
 -- lower place.

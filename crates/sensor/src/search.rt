@@ -53,17 +53,29 @@ fn visit(state: Search, m: &[u8], c: &[u8], place: usize) -> Search
     ensures { λ r. ⌜ r ≡ visited (passes (now (m .entry)) (now (c .entry))) state place ⌝ }
 {
     let pattern = state.candidate;
-    let window = c.len() * 8 - 24 - place;
-    let at = window / 8;
-    let offset = (window % 8) as u32;
-    let marked = windows::fits(&c[at..], offset, pattern);
-    let here = marked & leaves_first_bit(m, window, pattern);
-    let seen = keep(state, here, place as u32);
+    let seen = keep(state, passes_at(m, c, place, pattern), place as u32);
     Search {
         candidate: divide_by_x(pattern),
         changes: seen.changes,
         place: seen.place,
         pattern: seen.pattern,
+    }
+}
+
+// The test of a pattern at a place. Few have their ones on low marks alone; only these are asked for the first bit.
+fn passes_at(m: &[u8], c: &[u8], place: usize, pattern: u32) -> bool
+    requires { ⌜ (3 ≤ length (now c)) × (length (now c) ≤ 14) ⌝ }
+    requires { ⌜ length (now c) ≡ length (now m) ⌝ }
+    requires { ⌜ (place ≤ lastWindow (now c)) × (pattern < 2 ^ 24) ⌝ }
+    ensures { λ r. ⌜ r ≡ passes (now (m .entry)) (now (c .entry)) place pattern ⌝ }
+{
+    let window = c.len() * 8 - 24 - place;
+    let at = window / 8;
+    let offset = (window % 8) as u32;
+    if windows::fits(&c[at..], offset, pattern) {
+        leaves_first_bit(m, window, pattern)
+    } else {
+        false
     }
 }
 

@@ -1,22 +1,23 @@
 -- `sensor::density::search_dense` meets its contract. The loop's invariant: the highest dense place of those passed.
-use mathlib.Core.Path.{_≡_, sym, ap, ap₂, _∙_}
+use mathlib.Core.Path.{_≡_, refl, sym, ap, _∙_}
 use mathlib.Core.Bool.{Bool}
-use Prim.Native.Nat.{_-_, _≤_}
+use Prim.Native.Nat.{ℕ, _-_, _≤_}
 use native.Mathlib.Omega.{arith}
 use Rattle.sensor.specs.Verdicts.{Found, denseAt, firstOf, highest}
-use Rattle.sensor.specs.Searching.{foundOf}
-use Rattle.sensor.proofs.Fits.{highest-next}
+use Rattle.sensor.specs.Searching.{foundOf, orElse}
+use Rattle.sensor.proofs.Fits.{or-else-next, highest-next}
 use Rattle.sensor.proofs.density.search_dense.Statement.{statement}
 use Rattle.sensor.proofs.density.search_dense.Tie as tie
 
 abbrev Inv-loop : tie.InvT-loop
-Inv-loop c limit from to spot₀ place₀ spot place = (place ≤ to) × (foundOf spot ≡ highest (denseAt c limit) place)
+Inv-loop c limit from to spot₀ place₀ spot place =
+    (place ≤ to) × (orElse (foundOf spot) (highest (denseAt c limit) from) ≡ highest (denseAt c limit) place)
 
 abbrev μ-loop : tie.MeasureT-loop
 μ-loop c limit from to spot₀ place₀ spot place = to - place
 
 loop-holds : tie.Need-loop-holds Inv-loop μ-loop
-loop-holds c = (c .before .pre .1 .0 .0, c .before .pre .1 .1)
+loop-holds c = (c .before .pre .1 .0, refl)
 
 dense-at-requires : tie.Need-dense-at-requires Inv-loop μ-loop
 dense-at-requires c κs = (c .before .before .before .pre .0, omega arith)
@@ -34,12 +35,17 @@ loop-less : tie.Need-loop-less Inv-loop μ-loop
 loop-less c = omega arith
 
 loop-again : tie.Need-loop-again Inv-loop μ-loop
-loop-again c = (
-  omega arith,
-  c .later .ensures
-      ∙ ap₂ (λ (b : Bool) (f : Found). firstOf b (c .before .before .before .loop .place) f) (c .before .dense-at .ensures) (c .before .before .before .loop .inv .1)
-      ∙ sym (highest-next (denseAt (c .before .before .before .before .before .args .c .now) (c .before .before .before .before .before .args .limit)) (c .before .before .before .loop .place)),
-)
+loop-again c =
+    let a = c .before .before .before .before .before .args in
+    let l = c .before .before .before .loop in
+    let f : ℕ → Bool = denseAt (a .c .now) (a .limit) in
+    let below : Found = highest f (a .from) in (
+      omega arith,
+      ap (λ (g : Found). orElse g below) (c .later .ensures ∙ ap (λ (t : Bool). firstOf t (l .place) (foundOf (l .spot))) (c .before .dense-at .ensures))
+          ∙ or-else-next (f (l .place)) (l .place) (foundOf (l .spot)) below
+          ∙ ap (firstOf (f (l .place)) (l .place)) (l .inv .1)
+          ∙ sym (highest-next f (l .place)),
+    )
 
 returns : tie.Need-returns Inv-loop μ-loop
 returns c =

@@ -1,4 +1,4 @@
--- `sensor::density::pass_byte` meets its contract: where four bytes have few marks, no window in them is dense.
+-- `sensor::density::dense_in_byte` meets its contract: where four bytes have few marks, no window in them is dense.
 use mathlib.Core.Path.{sym, _∙_}
 use mathlib.Core.List.{List}
 use Prim.Native.Nat.{ℕ, _≤_}
@@ -10,8 +10,8 @@ use Rattle.windows.specs.Windows.{fourBytes}
 use Rattle.sensor.specs.Verdicts.{denseAt}
 use Rattle.sensor.proofs.Marks.{partAt, none-dense}
 use Rattle.sensor.proofs.Fits.{highest-past}
-use Rattle.sensor.proofs.density.pass_byte.Statement.{statement}
-use Rattle.sensor.proofs.density.pass_byte.Tie as tie
+use Rattle.sensor.proofs.density.dense_in_byte.Statement.{statement}
+use Rattle.sensor.proofs.density.dense_in_byte.Tie as tie
 
 mul-at : tie.Need-mul-at
 mul-at c = search needs
@@ -38,8 +38,7 @@ add-search-dense : tie.Need-add-search-dense
 add-search-dense c = search needs
 
 search-dense-requires : tie.Need-search-dense-requires
-search-dense-requires c κs =
-    (c .before .before .before .before .pre .0, ((omega arith, omega arith), c .before .before .before .before .pre .1 .1))
+search-dense-requires c κs = (c .before .before .before .before .pre .0, (omega arith, omega arith))
 
 returns : tie.Need-returns
 returns c =
@@ -47,16 +46,15 @@ returns c =
     let e : ℕ = c .before .before .before .before .args .place in
     let limit : ℕ = c .before .before .before .before .args .limit in
     let few : ones (fourBytes (partAt l e)) ≤ limit = leb-true (ones (fourBytes (partAt l e))) limit (sym (c .before .is-sparse .ensures) ∙ c .if1 .taken) in
-    c .before .before .before .before .pre .1 .1
-    ∙ sym
+    sym
     (highest-past (denseAt l limit) e 8
-    (none-dense l e limit (λ i. c .before .before .before .shared-slice-known .given i .fits) (c .before .before .before .before .pre .0 .0) (c .before .before .before .before .pre .1 .0 .0) (c .before .before .before .before .pre .1 .0 .1) few))
+    (none-dense l e limit (λ i. c .before .before .before .shared-slice-known .given i .fits) (c .before .before .before .before .pre .0 .0) (c .before .before .before .before .pre .1 .0) (c .before .before .before .before .pre .1 .1) few))
 
 returns-2 : tie.Need-returns-2
 returns-2 c = search needs
 
-pub pass-byte-spec : {M : Type 1} → statement M
-pass-byte-spec =
+pub dense-in-byte-spec : {M : Type 1} → statement M
+dense-in-byte-spec =
     tie.close
     (tie.spec
     mul-at
