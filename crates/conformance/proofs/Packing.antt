@@ -22,17 +22,19 @@ use Rattle.transponder.specs.declared.Reception.the-variants as R
 use Rattle.sensor.specs.Changes.{Fit}
 use Rattle.sensor.specs.Verdicts.{soleMark, severalMark, correctedAnswer, sensorOutcome, sensorAfter}
 use Rattle.sensor.proofs.Laws.{Admitted, sizes, unrefused}
+use Rattle.remainders.specs.Recording.{remaindersOutcome}
+use Rattle.remainders.proofs.Laws.{divided-done}
 use Rattle.mode_s.specs.Packing.{Source, Possible, GivesBack, OneToOne}
-use Rattle.mode_s.specs.Packing.Source.{seal, transponder, sensor}
-use Rattle.mode_s.specs.Packing.Possible.{refusedBy, sealed, own, allCall, broadcast, notOurs, clean, dense, noFit, corrected}
+use Rattle.mode_s.specs.Packing.Source.{seal, transponder, sensor, recording}
+use Rattle.mode_s.specs.Packing.Possible.{refusedBy, sealed, own, allCall, broadcast, notOurs, clean, dense, noFit, corrected, divided}
 use Rattle.mode_s.proofs.Laws.{gives-back, one-to-one, same-answer-same-number}
 use Rattle.conformance.specs.Refusals.{Part, row, Call, handed, outcome, Breaks, SomeBreaks, Applies, RefusedByLowest}
-use Rattle.conformance.specs.Refusals.Call.{sealReply as sealCall, receive as receiveCall, correct as correctCall}
+use Rattle.conformance.specs.Refusals.Call.{sealReply as sealCall, receive as receiveCall, correct as correctCall, divideReplies}
 use Rattle.conformance.specs.Accepting.{Due, OursIsDue}
 use Rattle.conformance.specs.Correcting.{Judged, IsDense, LowestDense, LowestFit, Right, OursIsRight}
 use Rattle.conformance.specs.Correcting.Right.{clean as isClean, dense as isDense, noFit as isNoFit, sole as isSole, several as isSeveral}
 use Rattle.conformance.specs.Packing.{FromC, sourceOf, outcomeOf, OfBytes, AnswersArePossible, NumbersTellAnswers, NumberGivesAnswer}
-use Rattle.conformance.specs.Packing.FromC.{sealReply, sealInterrogation, receive, correct}
+use Rattle.conformance.specs.Packing.FromC.{sealReply, sealInterrogation, receive, correct, divide}
 use Rattle.conformance.proofs.Refusals.{refused-by-lowest}
 use Rattle.conformance.proofs.Accepting.{ours-is-due}
 use Rattle.conformance.proofs.Right.{ours-is-right}
@@ -128,6 +130,14 @@ verdict-possible m c w l bm bc = by (split (sensorOutcome m c w l))
         right-possible m c w l (sensorOutcome m c w l) (sensorAfter m c w l) h
         (subst (λ (k : ℕ). k ≤ 14) (sym (a .same-length)) h) (ours-is-right m c w l (bm, bc, is-unrefused e))
 
+recording-possible : (s words : List ℕ) → Possible recording (remaindersOutcome s (length words))
+unfolding FirstSix outcome handed row
+recording-possible s words = by (split (remaindersOutcome s (length words)))
+  where
+    by : ((n : ℕ) × (remaindersOutcome s (length words) ≡ refusal n)) ⊎ ((n : ℕ) × (vs : List ℕ) × (remaindersOutcome s (length words) ≡ answer n vs)) → Possible recording (remaindersOutcome s (length words))
+    by (inl (n, e)) = refused-possible recording (divideReplies s words) n (lit≤ tt, lit≤ tt, tt) e
+    by (inr (n, vs, e)) = subst (Possible recording) (sym (divided-done s (length words) n vs e)) divided
+
 -- ---- the theorems
 
 pub answers-are-possible : AnswersArePossible
@@ -136,6 +146,7 @@ answers-are-possible (sealReply m w) b = seal-possible m w
 answers-are-possible (sealInterrogation m a) b = seal-possible m a
 answers-are-possible (receive a m) b = reception-possible a m
 answers-are-possible (correct m c w l) b = verdict-possible m c w l (b .0) (b .1)
+answers-are-possible (divide s words) b = recording-possible s words
 
 pub numbers-tell-answers : NumbersTellAnswers
 unfolding NumbersTellAnswers OneToOne AnswersArePossible

@@ -3,16 +3,18 @@
 -- what is right of them; here are the numbers of its answers, the lowest and the highest window among them.
 use mathlib.Core.Path.{_≡_, refl}
 use mathlib.Core.List.{List, [], _∷_}
+use Prim.Native.Nat.{ℕ}
 use Rattle.message.specs.Message.{number, formatNumber, firstBit, firstBitAgrees, isMessageLength, isWord}
 use Rattle.division.specs.Polynomial.{polynomial, downwards}
 use Rattle.division.specs.Division.{generator, generatorPowers, reduce, divide, quotient, addressRead}
 use Rattle.encoder.specs.Seals.{sealOutcome}
 use Rattle.transponder.specs.Receptions.{receptionOf, isReserved, receptionOutcome}
 use Rattle.sensor.specs.Verdicts.{soleMark, severalMark, cleanAnswer, denseAnswer, noFitAnswer, correctedAnswer, checked, sensorOutcome}
+use Rattle.remainders.specs.Recording.{areAsMany, remaindersOutcome}
 use Rattle.mode_s.specs.Packing.{parts, packed}
 use Rattle.mode_s.specs.Packing.Source.{sensor}
 use Rattle.conformance.specs.Packing.{numberOf}
-use Rattle.conformance.specs.Packing.FromC.{sealReply, sealInterrogation, receive, correct}
+use Rattle.conformance.specs.Packing.FromC.{sealReply, sealInterrogation, receive, correct, divide as divideReplies}
 
 -- sealed, and refusals 1, 3 and 5
 seals : (numberOf (sealReply (0x00 ∷ 0x00 ∷ 0x80 ∷ 0x00 ∷ 0x00 ∷ 0x00 ∷ 0x00 ∷ []) 0x123456) ≡ 0x0000000000000002)
@@ -50,3 +52,12 @@ verdicts : (packed sensor cleanAnswer ≡ 0x0000000000000007)
     × (packed sensor (correctedAnswer 88 1 soleMark) ≡ 0x000000015801000A)
 unfolding parts packed
 verdicts = (refl, refl, refl, refl, refl, refl, refl, refl)
+
+-- divided, and refusal 1, of a recording of one reply (a reply that carries 000000)
+abbrev reply : List ℕ
+reply = 0x8D ∷ 0x48 ∷ 0x40 ∷ 0xD6 ∷ 0x20 ∷ 0x2C ∷ 0xC3 ∷ 0x71 ∷ 0xC3 ∷ 0x2C ∷ 0xE0 ∷ 0x57 ∷ 0x60 ∷ 0x98 ∷ []
+
+recordings : (numberOf (divideReplies reply (0 ∷ [])) ≡ 0x000000000000000B)
+    × (numberOf (divideReplies reply (0 ∷ 0 ∷ [])) ≡ 0x0000000000000101)
+unfolding areAsMany remaindersOutcome parts packed
+recordings = (refl, refl)

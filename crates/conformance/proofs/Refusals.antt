@@ -36,14 +36,15 @@ use Rattle.rollcall_table.specs.declared.Record.{Record}
 use Rattle.rollcall_table.specs.Table.{recordAt, holder, isIn}
 use Rattle.rollcall_plans.specs.Calls.{found, added, renewed, absent, held, stands, clearOutcome, findOutcome, removeOutcome, addOutcome}
 use Rattle.rollcall_meaning.proofs.Laws.{clear-leaves, add-leaves, remove-leaves}
+use Rattle.remainders.specs.Recording.{remaindersOf, remaindersOutcome, remaindersAfter}
 use Rattle.uplink_elm.specs.declared.Progress.{Progress}
 use Rattle.uplink_elm.specs.Receiving.{progressOf, withProgress, receiverAfter}
 use Rattle.uplink_elm.proofs.Laws.{onward, by-reception, refused-leaves as segment-leaves}
 use Rattle.uplink_elm_sending.specs.Sending.{segmentCount, lastNumbers, roundNumbers, lastOutcome, roundOutcome}
 use Rattle.uplink_elm_sending.proofs.Laws.{opening-leaves, exchange-leaves, round-leaves}
 use Rattle.conformance.specs.Refusals.{Part, row, Call, handed, outcome, lent, after, Breaks, SomeBreaks, Applies, RefusedByLowest, UnrefusedWhereNone, RefusedLeaves}
-use Rattle.conformance.specs.Refusals.Call.{registerStep, registerBack, uplinkOverlay, fieldParity, messageRemainder, addressRead as readAddress, sealReply, sealInterrogation, receive, correct, readAltitude, writeAltitude, takenAntenna, clearTable, addOrRenew, removeRecord, findRecord, receiveSegment, sendOpening, sendRound, sendExchange}
-use Rattle.conformance.specs.Refusals.Lent.{bytes, rollcall, upload}
+use Rattle.conformance.specs.Refusals.Call.{registerStep, registerBack, uplinkOverlay, fieldParity, messageRemainder, addressRead as readAddress, sealReply, sealInterrogation, receive, correct, readAltitude, writeAltitude, takenAntenna, clearTable, addOrRenew, removeRecord, findRecord, receiveSegment, sendOpening, sendRound, sendExchange, divideReplies}
+use Rattle.conformance.specs.Refusals.Lent.{bytes, rollcall, upload, words}
 use Rattle.conformance.proofs.Rows.{passes, failed-wrong, wrong-failed}
 
 -- ---- a chain of tests
@@ -147,6 +148,7 @@ final (receiveSegment own m r s) = withProgress (said (receptionOf own (addressR
 final (sendOpening a d b) = value (length (lastNumbers (segmentCount (length d))))
 final (sendRound a d k s b) = value (length (roundNumbers k (segmentCount (length d)) s))
 final (sendExchange a d b) = value (length (lastNumbers (segmentCount (length d))))
+final (divideReplies s w) = done
 
 -- the transponder's four rows before the answer of another call
 four-rows : (own a f : ℕ) (r : Reception) → Case own a f r → (o : Outcome) (s t u v : Bool)
@@ -165,7 +167,7 @@ four-rows own a f r h o true false u v = refl
 four-rows own a f r h o false t u v = refl
 
 is-chain : (c : Call) → chain (handed c) (final c) ≡ outcome c
-unfolding chain passes row handed final outcome registerAnswer backwardAnswer overlayAnswer parityAnswer remainderAnswer addressAnswer sealOutcome receptionOutcome sensorOutcome checked readingOutcome writingOutcome clearOutcome addOutcome removeOutcome findOutcome lastOutcome roundOutcome
+unfolding chain passes row handed final outcome registerAnswer backwardAnswer overlayAnswer parityAnswer remainderAnswer addressAnswer sealOutcome receptionOutcome sensorOutcome checked readingOutcome writingOutcome clearOutcome addOutcome removeOutcome findOutcome lastOutcome roundOutcome remaindersOutcome
 is-chain (registerStep r b) = refl
 is-chain (registerBack r) = refl
 is-chain (uplinkOverlay a) = refl
@@ -190,6 +192,7 @@ is-chain (receiveSegment own m r s) =
 is-chain (sendOpening a d b) = refl
 is-chain (sendRound a d k s b) = refl
 is-chain (sendExchange a d b) = refl
+is-chain (divideReplies s w) = refl
 
 in-order : (c : Call) → From 0 (handed c)
 unfolding From handed row
@@ -214,6 +217,7 @@ in-order (receiveSegment own m r s) = (lit≤ tt, (lit≤ tt, (lit≤ tt, (lit�
 in-order (sendOpening a d b) = (lit≤ tt, (lit≤ tt, (lit≤ tt, tt)))
 in-order (sendRound a d k s b) = (lit≤ tt, (lit≤ tt, (lit≤ tt, (lit≤ tt, tt))))
 in-order (sendExchange a d b) = (lit≤ tt, (lit≤ tt, (lit≤ tt, tt)))
+in-order (divideReplies s w) = (lit≤ tt, tt)
 
 reception-final : (own a f : ℕ) (r : Reception) → Case own a f r → Unrefused (said r)
 reception-final own a f Own h n e = refusal-is-no-answer (sym e)
@@ -278,6 +282,7 @@ is-final (receiveSegment own m r s) n e = segment-final own (addressRead (number
 is-final (sendOpening a d b) n e = refusal-is-no-answer (sym e)
 is-final (sendRound a d k s b) n e = refusal-is-no-answer (sym e)
 is-final (sendExchange a d b) n e = refusal-is-no-answer (sym e)
+is-final (divideReplies s w) n e = refusal-is-no-answer (sym e)
 
 -- ---- the theorems
 
@@ -299,7 +304,7 @@ same : (rs rs′ : List Record) (ps ps′ : List ℕ) (n n′ : ℕ) → rs′ �
 same rs rs′ ps ps′ n n′ x y z = cc
 
 pub refused-leaves : RefusedLeaves
-unfolding RefusedLeaves outcome after lent replyAfter interrogationAfter
+unfolding RefusedLeaves outcome after lent replyAfter interrogationAfter remaindersAfter
 refused-leaves (registerStep r b) n e = refl
 refused-leaves (registerBack r) n e = refl
 refused-leaves (uplinkOverlay a) n e = refl
@@ -321,3 +326,4 @@ refused-leaves (receiveSegment own m r s) n e = let l = segment-leaves own m r s
 refused-leaves (sendOpening a d b) n e = ap bytes (opening-leaves a d b n e)
 refused-leaves (sendRound a d k s b) n e = ap bytes (round-leaves a d k s b n e)
 refused-leaves (sendExchange a d b) n e = ap bytes (exchange-leaves a d b n e)
+refused-leaves (divideReplies s w) n e = ap words (left-of _ _ w (remaindersOf s (length w)) e)

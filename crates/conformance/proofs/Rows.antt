@@ -3,7 +3,7 @@ use mathlib.Core.Path.{_≡_, refl, sym, ap, _∙_, subst}
 use mathlib.Core.Logic.{_⊎_, inl, inr, _↔_}
 use mathlib.Core.List.{List}
 use mathlib.Core.Bool.{Bool, true, false, not, _&&_, _||_}
-use Prim.Native.Nat.{ℕ, _%_, _<_, _≤_}
+use Prim.Native.Nat.{ℕ, _*_, _%_, _<_, _≤_}
 use lib.Dec.{T, eqb, leb, lt→ltb}
 use lib.IntN.{ℤ, pos, negsuc, natAbs}
 use lib.ListN.{length}
@@ -16,12 +16,13 @@ use Rattle.altitude_code.specs.Altitudes.{lowest, highest, inCode}
 use Rattle.altitude_code.proofs.Laws.{was-in-code}
 use Rattle.rollcall_table.specs.Table.{rightLengths, isSound, isIn, hasRoom}
 use Rattle.rollcall_meaning.proofs.Laws.{lengths-wrong, wrong-lengths, unsound, not-sound, no-place, place-none}
+use Rattle.remainders.specs.Recording.{areAsMany}
 use Rattle.uplink_elm.specs.Segments.{replyControl, segmentNumber}
 use Rattle.uplink_elm.proofs.Laws.{opensNone, isAbove, unopened, above, opens-none, is-above, of-own}
 use Rattle.uplink_elm_sending.specs.Sending.{isRoundSize, isSegmented, isRoom}
 use Rattle.uplink_elm_sending.proofs.Laws.{not-round-size, not-segmented, no-room}
 use Rattle.conformance.specs.Refusals.{Part, Wrong}
-use Rattle.conformance.specs.Refusals.Part.{message, field, confidence, word, limit, judged, ownAddress, altitude, lengths, table, entering, opening, numbered, segmented, roundSize, room}
+use Rattle.conformance.specs.Refusals.Part.{message, field, confidence, word, limit, judged, ownAddress, altitude, lengths, table, entering, opening, numbered, segmented, roundSize, room, recording}
 
 -- ---- the test of each part
 
@@ -42,6 +43,7 @@ passes (numbered own m r) = not (above own m r)
 passes (segmented d) = isSegmented (length d)
 passes (roundSize s) = isRoundSize s
 passes (room b ns) = isRoom (length b) ns
+passes (recording s n) = areAsMany (length s) n
 
 -- two tests of equality, either of which will do
 either-false : (a b c : ℕ) → ((eqb a b || eqb a c) ≡ false) ↔ ((a ≡ b → ⊥) × (a ≡ c → ⊥))
@@ -120,7 +122,7 @@ not-of-code z s h = by (inCode z s) refl h
     by true e (inr (inr (inr n))) = clashℤ n (is-le z (highest s) (was-in-code z s e .to-highest))
 
 pub failed-wrong : (p : Part) → passes p ≡ false → Wrong p
-unfolding passes Wrong isMessageLength isFieldLength isWord
+unfolding passes Wrong isMessageLength isFieldLength isWord areAsMany
 failed-wrong (message m) e = either-false (length m) 7 14 .0 e
 failed-wrong (field f) e = either-false (length f) 4 11 .0 e
 failed-wrong (confidence m c) e = eqb-false (length c) (length m) e
@@ -141,9 +143,10 @@ failed-wrong (numbered own m r) e =
 failed-wrong (segmented d) e = not-segmented (length d) .0 e
 failed-wrong (roundSize s) e = not-round-size s .0 e
 failed-wrong (room b ns) e = no-room (length b) ns .0 e
+failed-wrong (recording s n) e = eqb-false (length s) (14 * n) e
 
 pub wrong-failed : (p : Part) → Wrong p → passes p ≡ false
-unfolding passes Wrong isMessageLength isFieldLength isWord
+unfolding passes Wrong isMessageLength isFieldLength isWord areAsMany
 wrong-failed (message m) h = either-false (length m) 7 14 .1 h
 wrong-failed (field f) h = either-false (length f) 4 11 .1 h
 wrong-failed (confidence m c) h = ne-eqb (length c) (length m) h
@@ -160,3 +163,4 @@ wrong-failed (numbered own m r) h = ap not (of-own own m _ .1 (h .0, h .1, is-ab
 wrong-failed (segmented d) h = not-segmented (length d) .1 h
 wrong-failed (roundSize s) h = not-round-size s .1 h
 wrong-failed (room b ns) h = no-room (length b) ns .1 h
+wrong-failed (recording s n) h = ne-eqb (length s) (14 * n) h

@@ -4,21 +4,24 @@ use Prim.Native.Nat.{ℕ}
 use mathlib.Core.Path.{_≡_}
 use mathlib.Core.Logic.{_↔_}
 use mathlib.Core.List.{List}
+use lib.ListN.{length}
 use Rattle.outcome.specs.Outcomes.{Outcome}
 use Rattle.message.specs.Message.{Bytes}
 use Rattle.encoder.specs.Seals.{sealOutcome}
 use Rattle.transponder.specs.Receptions.{receptionOutcome}
 use Rattle.sensor.specs.Verdicts.{sensorOutcome}
+use Rattle.remainders.specs.Recording.{remaindersOutcome}
 use Rattle.mode_s.specs.Packing.{Source, packed, Answer, answerOf, unpacked, Possible}
-use Rattle.mode_s.specs.Packing.Source.{seal, transponder, sensor}
+use Rattle.mode_s.specs.Packing.Source.{seal, transponder, sensor, recording}
 
 -- A call from C, with what it is given: a message and a word, or an address; an own address and a message; a message,
--- confidence bits, a word and a limit.
+-- confidence bits, a word and a limit; a recording of long replies and the words lent for their remainders.
 pub data FromC : Type 0 where
   sealReply : List ℕ → ℕ → FromC
   sealInterrogation : List ℕ → ℕ → FromC
   receive : ℕ → List ℕ → FromC
   correct : List ℕ → List ℕ → ℕ → ℕ → FromC
+  divide : List ℕ → List ℕ → FromC
 
 -- Whose answer it has, and the outcome: the one of the Rattle call that it stands for.
 abbrev pub sourceOf : FromC → Source
@@ -26,12 +29,14 @@ sourceOf (sealReply m w) = seal
 sourceOf (sealInterrogation m a) = seal
 sourceOf (receive own m) = transponder
 sourceOf (correct m c w l) = sensor
+sourceOf (divide s words) = recording
 
 abbrev pub outcomeOf : FromC → Outcome
 outcomeOf (sealReply m w) = sealOutcome m w
 outcomeOf (sealInterrogation m a) = sealOutcome m a
 outcomeOf (receive own m) = receptionOutcome own m
 outcomeOf (correct m c w l) = sensorOutcome m c w l
+outcomeOf (divide s words) = remaindersOutcome s (length words)
 
 -- Its answer, and the number that it gives.
 abbrev pub answerTo : FromC → Answer
@@ -46,6 +51,7 @@ OfBytes (sealReply m w) = Bytes m
 OfBytes (sealInterrogation m a) = Bytes m
 OfBytes (receive own m) = Bytes m
 OfBytes (correct m c w l) = Bytes m × Bytes c
+OfBytes (divide s words) = Bytes s
 
 -- No call answers anything that `Possible` does not list.
 unfoldable pub AnswersArePossible : Type 0

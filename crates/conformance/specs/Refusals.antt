@@ -28,6 +28,7 @@ use Rattle.rollcall_table.specs.declared.Record.{Record}
 use Rattle.rollcall_table.specs.declared.Sighting.{Sighting}
 use Rattle.rollcall_table.specs.Table.{largest, recordAt, Sound, holds}
 use Rattle.rollcall_plans.specs.Calls.{clearOutcome, clearCount, clearRecords, findOutcome, removeOutcome, removeCount, removeRecords, removePlaces, addOutcome, addCount, addRecords, addPlaces}
+use Rattle.remainders.specs.Recording.{remaindersOutcome, remaindersAfter}
 use Rattle.uplink_elm.specs.declared.Receiver.{Receiver}
 use Rattle.uplink_elm.specs.Segments.{isExtended, replyControl, segmentNumber}
 use Rattle.uplink_elm.specs.Receiving.{receivingOutcome, receiverAfter, segmentsAfter}
@@ -39,7 +40,8 @@ use Rattle.uplink_elm_sending.specs.Sending.{segmentCount, lastNumbers, roundNu
 -- buffer belongs to a message; a word may be an address or a register; an altitude, in feet, has its step; a roll-call table is
 -- its records, its places and its count, of which clear judges the lengths alone; an address is to enter a table's records; an own
 -- address, a message and the receiver that hears it are judged together, by row 10 and by row 11. Row 12 judges a message in segments, the
--- size of a round, and the buffer for the transmissions of some numbers.
+-- size of a round, and the buffer for the transmissions of some numbers. A recording of long replies comes with the number of words lent
+-- for their remainders.
 pub data Part : Type 0 where
   message : List ℕ → Part
   field : List ℕ → Part
@@ -57,6 +59,7 @@ pub data Part : Type 0 where
   segmented : List ℕ → Part
   roundSize : ℕ → Part
   room : List ℕ → List ℕ → Part
+  recording : List ℕ → ℕ → Part
 
 -- The number of the row that speaks of a part,
 unfoldable pub row : Part → ℕ
@@ -76,6 +79,7 @@ row (numbered own m r) = numberAboveLast
 row (segmented d) = notSendable
 row (roundSize s) = notSendable
 row (room b ns) = notSendable
+row (recording s n) = wrongLength
 
 -- and its condition: 'message not 7 or 14 bytes, or field not 4 or 11'; 'confidence length differs from message length';
 -- 'word, address or register above FFFFFF'; 'density limit above 24'; 'first bit contradicts the length', where 'a first
@@ -84,7 +88,7 @@ row (room b ns) = notSendable
 -- 'the two lengths differ or lie outside 1 to 1000', or the table is not sound; 'the address is new and every place is live'
 -- (Point 4); 'RC 1 or 2 with nothing opened, or RC 0 with NC 0', and 'RC 1 or 2 with NC above the opened last', 'only where the
 -- answer is 'own' and the format this one' (Point 7); 's outside 1 to 16, a message not of 2 to 16 whole segments, or a buffer not of 14 bytes
--- for each transmission of that call' (Point 10).
+-- for each transmission of that call' (Point 10); row 1 of a recording: it has not 14 bytes for each word (Point 13).
 unfoldable pub Wrong : Part → Type 0
 Wrong (message m) = (length m ≡ 7 → ⊥) × (length m ≡ 14 → ⊥)
 Wrong (field f) = (length f ≡ 4 → ⊥) × (length f ≡ 11 → ⊥)
@@ -107,6 +111,7 @@ Wrong (numbered own m r) =
 Wrong (segmented d) = (n : ℕ) → 2 ≤ n → n ≤ 16 → length d ≡ n * 10 → ⊥
 Wrong (roundSize s) = (s < 1) ⊎ (16 < s)
 Wrong (room b ns) = length b ≡ length ns * 14 → ⊥
+Wrong (recording s n) = length s ≡ 14 * n → ⊥
 
 -- ---- the calls
 
@@ -133,6 +138,7 @@ pub data Call : Type 0 where
   sendOpening : ℕ → List ℕ → List ℕ → Call
   sendRound : ℕ → List ℕ → ℕ → ℕ → List ℕ → Call
   sendExchange : ℕ → List ℕ → List ℕ → Call
+  divideReplies : List ℕ → List ℕ → Call
 
 -- What each hands over: the table's column 'Calls'. The companion of the two-antenna transponder hands over the own address
 -- alone: 'A buffer that would be refused is simply not taken' (document 02, Point 5).
@@ -158,6 +164,7 @@ handed (receiveSegment own m r s) = message m ∷ word own ∷ judged m ∷ ownA
 handed (sendOpening a d b) = word a ∷ segmented d ∷ room b (lastNumbers (segmentCount (length d))) ∷ []
 handed (sendRound a d k s b) = word a ∷ roundSize s ∷ segmented d ∷ room b (roundNumbers k (segmentCount (length d)) s) ∷ []
 handed (sendExchange a d b) = word a ∷ segmented d ∷ room b (lastNumbers (segmentCount (length d))) ∷ []
+handed (divideReplies s w) = recording s (length w) ∷ []
 
 -- What each answers: the definition that its contract names.
 unfoldable pub outcome : Call → Outcome
@@ -182,13 +189,15 @@ outcome (receiveSegment own m r s) = receivingOutcome own m r
 outcome (sendOpening a d b) = lastOutcome a (length d) (length b)
 outcome (sendRound a d k s b) = roundOutcome a (length d) k s (length b)
 outcome (sendExchange a d b) = lastOutcome a (length d) (length b)
+outcome (divideReplies s w) = remaindersOutcome s (length w)
 
 -- What a call may change: a buffer of bytes; or a table's records and places, and its count, which is passed in and returned; or a
--- receiver, which is passed in and returned, and the bytes of its places.
+-- receiver, which is passed in and returned, and the bytes of its places; or a buffer of words.
 pub data Lent : Type 0 where
   bytes : List ℕ → Lent
   rollcall : List Record → List ℕ → ℕ → Lent
   upload : Receiver → List ℕ → Lent
+  words : List ℕ → Lent
 
 -- What each is lent to change, and what it is after the call; no bytes where nothing is lent so.
 unfoldable pub lent : Call → Lent
@@ -213,6 +222,7 @@ lent (receiveSegment own m r s) = upload r s
 lent (sendOpening a d b) = bytes b
 lent (sendRound a d k s b) = bytes b
 lent (sendExchange a d b) = bytes b
+lent (divideReplies s w) = words w
 
 unfoldable pub after : Call → Lent
 after (registerStep r b) = bytes []
@@ -236,6 +246,7 @@ after (receiveSegment own m r s) = upload (receiverAfter own m r) (segmentsAfter
 after (sendOpening a d b) = bytes (openingAfter a d b)
 after (sendRound a d k s b) = bytes (roundAfter a d k s b)
 after (sendExchange a d b) = bytes (exchangeAfter a d b)
+after (divideReplies s w) = words (remaindersAfter s w)
 
 -- ---- the statements
 

@@ -11,7 +11,7 @@ use Rattle.outcome.specs.Outcomes.Outcome.{refusal, answer}
 use Rattle.sensor.specs.Verdicts.{soleMark, severalMark}
 use Rattle.mode_s.specs.Packing.{parts, numberIn, refusalIn, markIn, windowIn, bitsIn, addressIn, Source, refusedNumber, packed, Answer, answerOf, answerBy, unpacked, Possible, GivesBack, OneToOne, OneToOneOfOne, AlikeWhereRefused, PartsApart, NeverZero}
 use Rattle.mode_s.specs.Packing.Answer.{refused, given}
-use Rattle.mode_s.specs.Packing.Possible.{refusedBy, sealed, own, allCall, broadcast, notOurs, clean, dense, noFit, corrected}
+use Rattle.mode_s.specs.Packing.Possible.{refusedBy, sealed, own, allCall, broadcast, notOurs, clean, dense, noFit, corrected, divided}
 
 -- ---- the parts
 
@@ -55,6 +55,7 @@ gives-back s o clean = alone _ (lit< tt)
 gives-back s o (dense w h) = given-back _ _ _ _ _ _ (lit< tt) (lit< tt) (lit< tt) (omega arith) (lit< tt) (lit< tt)
 gives-back s o noFit = alone _ (lit< tt)
 gives-back s o (corrected w b k hw _ hb hk) = given-back _ _ _ _ _ _ (lit< tt) (lit< tt) (mark-small k hk) (omega arith) (omega arith) (lit< tt)
+gives-back s o divided = alone _ (lit< tt)
 
 -- ---- one to one
 
@@ -118,3 +119,4 @@ never-zero s o clean = number-of-some _ _ _ _ _ _ (lit< tt) (lit< tt)
 never-zero s o (dense w _) = number-of-some _ _ _ _ _ _ (lit< tt) (lit< tt)
 never-zero s o noFit = number-of-some _ _ _ _ _ _ (lit< tt) (lit< tt)
 never-zero s o (corrected w b k _ _ _ _) = number-of-some _ _ _ _ _ _ (lit< tt) (lit< tt)
+never-zero s o divided = number-of-some _ _ _ _ _ _ (lit< tt) (lit< tt)

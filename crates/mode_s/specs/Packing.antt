@@ -51,14 +51,15 @@ addressIn x = x / 2 ^ 40 % 2 ^ 24
 
 -- ---- an outcome, packed
 
--- Whose answer it is: a seal's (of either kind), the transponder's or the sensor's.
+-- Whose answer it is: a seal's (of either kind), the transponder's, the sensor's or that of the division of a recording.
 pub data Source : Type 0 where
   seal : Source
   transponder : Source
   sensor : Source
+  recording : Source
 
 -- The number 'refused', and those of the answers by document 01's number: sealed 2; own, all-call, not ours and broadcast 3
--- to 6; clean, dense, no fit and corrected 7 to 10. No answer has the number 0.
+-- to 6; clean, dense, no fit and corrected 7 to 10; divided 11. No answer has the number 0.
 abbrev pub refusedNumber : ℕ
 refusedNumber = 1
 
@@ -66,6 +67,7 @@ abbrev pub answerNumber : Source → ℕ → ℕ
 answerNumber seal n = 2 + n
 answerNumber transponder n = 2 + n
 answerNumber sensor n = 6 + n
+answerNumber recording n = 11 + n
 
 -- The parts of an outcome: the transponder's value is the address read; the sensor's are the window, the count of bits and
 -- the mark, in this order. A part that an answer lacks is 0.
@@ -74,6 +76,7 @@ packed s (refusal n) = parts refusedNumber n 0 0 0 0
 packed seal (answer n vs) = parts (answerNumber seal n) 0 0 0 0 0
 packed transponder (answer n vs) = parts (answerNumber transponder n) 0 0 0 0 (getD vs 0 0)
 packed sensor (answer n vs) = parts (answerNumber sensor n) 0 (getD vs 2 0) (getD vs 0 0) (getD vs 1 0) 0
+packed recording (answer n vs) = parts (answerNumber recording n) 0 0 0 0 0
 
 -- ---- and unpacked
 
@@ -99,7 +102,8 @@ answerBy number row mark window bits address =
     (cond (eqb number 8) (given sensor 2 (window ∷ []))
     (cond (eqb number 9) (given sensor 3 [])
     (cond (eqb number 10) (given sensor 4 (window ∷ bits ∷ mark ∷ []))
-    (refused row)))))))))
+    (cond (eqb number 11) (given recording 0 [])
+    (refused row))))))))))
 
 unfoldable pub unpacked : ℕ → Answer
 unpacked x = answerBy (numberIn x) (refusalIn x) (markIn x) (windowIn x) (bitsIn x) (addressIn x)
@@ -107,8 +111,8 @@ unpacked x = answerBy (numberIn x) (refusalIn x) (markIn x) (windowIn x) (bitsIn
 -- ---- what the calls can answer
 
 -- Rows 1 to 6 of the refusals; 'sealed'; the transponder's four answers, an address of 24 bits with 'not ours'; the sensor's
--- four, with windows 0 to 88, 1 to 24 bits changed, and one of two marks. That no call answers anything else is the conformance
--- crate's theorem.
+-- four, with windows 0 to 88, 1 to 24 bits changed, and one of two marks; 'divided'. That no call answers anything else is the
+-- conformance crate's theorem.
 pub data Possible : Source → Outcome → Type 0 where
   refusedBy : (s : Source) (n : ℕ) → 1 ≤ n → n ≤ 6 → Possible s (refusal n)
   sealed : Possible seal done
@@ -120,6 +124,7 @@ pub data Possible : Source → Outcome → Type 0 where
   dense : (w : ℕ) → w ≤ 88 → Possible sensor (denseAnswer w)
   noFit : Possible sensor noFitAnswer
   corrected : (w b k : ℕ) → w ≤ 88 → 1 ≤ b → b ≤ 24 → (k ≡ soleMark) ⊎ (k ≡ severalMark) → Possible sensor (correctedAnswer w b k)
+  divided : Possible recording done
 
 -- ---- the statements
 

@@ -1,18 +1,22 @@
-// The seals, the transponder and the sensor for callers in C: numbers and byte buffers in, one number of 64 bits out. A slice
-// is two arguments in C, a pointer and a length.
+// The seals, the transponder, the sensor and the division of a recording for callers in C: numbers and buffers in, one number of
+// 64 bits out. A slice is two arguments in C, a pointer and a length.
 //
 // Each call is the one of the library below it, and its answer is packed: so each promises that call's definition, packed, and
 // the same buffer. include/mode_s.h says what the caller has to promise.
 ghost use mathlib.Core.Path.{_≡_};
+ghost use lib.ListN.{length};
 ghost use Rattle.encoder.specs.Seals.{sealOutcome, replyAfter, interrogationAfter};
 ghost use Rattle.encoder.specs.Seals.{said as saidSeal};
 ghost use Rattle.transponder.specs.Receptions.{receptionOutcome};
 ghost use Rattle.transponder.specs.Receptions.{said as saidReception};
 ghost use Rattle.sensor.specs.Verdicts.{sensorOutcome, sensorAfter, markOf};
 ghost use Rattle.sensor.specs.Verdicts.{said as saidVerdict};
+ghost use Rattle.remainders.specs.Recording.{remaindersOutcome, remaindersAfter};
+ghost use Rattle.remainders.specs.Recording.{said as saidDivided};
 ghost use Rattle.mode_s.specs.Packing.{parts, packed};
-ghost use Rattle.mode_s.specs.Packing.Source.{seal, transponder, sensor};
+ghost use Rattle.mode_s.specs.Packing.Source.{seal, transponder, sensor, recording};
 use encoder::Seal;
+use remainders::Divided;
 use sensor::Correction;
 use sensor::Mark;
 use sensor::Verdict;
@@ -58,6 +62,15 @@ pub extern "C" fn mode_s_correct(
     packed_verdict(sensor::correct(message, confidence, word, limit))
 }
 
+// The remainders of a recording of long replies, a word each.
+#[no_mangle]
+pub extern "C" fn mode_s_remainders(replies: &[u8], remainders: &mut [u32]) -> u64
+    ensures { λ r. ⌜ r ≡ packed recording (remaindersOutcome (now (replies .entry)) (length (now (remainders .entry)))) ⌝ }
+    ensures { λ r. ⌜ now (remainders .exit) ≡ remaindersAfter (now (replies .entry)) (now (remainders .entry)) ⌝ }
+{
+    packed_divided(remainders::remainders(replies, remainders))
+}
+
 fn packed_seal(s: Seal) -> u64
     ensures { λ r. ⌜ r ≡ packed seal (saidSeal s) ⌝ }
 {
@@ -88,6 +101,15 @@ fn packed_verdict(s: Verdict) -> u64
         Verdict::NoFit => parts(9, 0, 0, 0, 0, 0),
         Verdict::Corrected(k) => packed_correction(k),
         Verdict::Refused(n) => parts(1, n, 0, 0, 0, 0),
+    }
+}
+
+fn packed_divided(s: Divided) -> u64
+    ensures { λ r. ⌜ r ≡ packed recording (saidDivided s) ⌝ }
+{
+    match s {
+        Divided::All => parts(11, 0, 0, 0, 0, 0),
+        Divided::Refused(n) => parts(1, n, 0, 0, 0, 0),
     }
 }
 
