@@ -1,4 +1,4 @@
-"""Each answer of the four functions once, on the messages of docs/C-INTERFACE.md."""
+"""Each answer of the five functions once, on the messages of docs/C-INTERFACE.md."""
 
 import mode_s
 
@@ -17,3 +17,5 @@ print(mode_s.correct(of("00000000EB2472"), of("00004000000000"), 0x123456, 24))
 print(mode_s.correct(of("00000000EB2472"), of("00008000000000"), 0x123456, 24))
 print(mode_s.correct(of("00000001000000"), of("00000001FFF409"), 0x000000, 15))
 print(mode_s.correct(of("00000000EB2472"), of("00008000000000"), 0x123456, 25))
+print(mode_s.remainders(of("8D4840D6202CC371C32CE05760988D4840D6202CC371C32CE0576099")))
+print(mode_s.remainders(of("8D4840D6202CC371C32CE05760")))

@@ -1,4 +1,4 @@
-"""Mode S parity from Python: the two seals, the transponder and the sensor.
+"""Mode S parity from Python: the two seals, the transponder, the sensor and the division of a recording.
 
 A thin layer of ctypes over libmode_s.so, which bin/install leaves in PREFIX/lib; include/mode_s.h says what the functions do. The
 library is the one that the environment variable MODE_S_LIBRARY names, or else the one that the loader finds as libmode_s.so.
@@ -11,7 +11,7 @@ A call takes bytes and changes none of them: the message after it is in the tupl
 
 import ctypes
 import os
-from typing import NamedTuple, Optional
+from typing import List, NamedTuple, Optional
 
 
 class Sealed(NamedTuple):
@@ -41,6 +41,14 @@ class Verdict(NamedTuple):
     refusal: Optional[int]
 
 
+class Divided(NamedTuple):
+    """What the division of a recording answers: 'divided' or 'refused', with the remainder of each long reply."""
+
+    answer: str
+    remainders: List[int]
+    refusal: Optional[int]
+
+
 _ANSWERS = {
     1: "refused",
     2: "sealed",
@@ -52,6 +60,7 @@ _ANSWERS = {
     8: "dense",
     9: "no fit",
     10: "corrected",
+    11: "divided",
 }
 _MARKS = {1: "sole", 2: "several"}
 
@@ -72,6 +81,7 @@ _seal_reply = _function("mode_s_seal_reply", _bytes, _size, _word)
 _seal_interrogation = _function("mode_s_seal_interrogation", _bytes, _size, _word)
 _receive = _function("mode_s_receive", _word, _bytes, _size)
 _correct = _function("mode_s_correct", _bytes, _size, _bytes, _size, _word, _word)
+_remainders = _function("mode_s_remainders", _bytes, _size, ctypes.POINTER(_word), _size)
 
 
 def _lent(data):
@@ -144,3 +154,12 @@ def correct(message: bytes, confidence: bytes, word: int, limit: int) -> Verdict
     lent, marks = _lent(message), _lent(confidence)
     number = _correct(lent, len(lent), marks, len(marks), _number(word), _number(limit))
     return Verdict(_answer(number), bytes(lent), _window(number), _bits(number), _mark(number), _refusal(number))
+
+
+def remainders(replies: bytes) -> Divided:
+    """The remainders of long replies, 14 bytes each; refused where the bytes are no multiple of 14."""
+    lent = _lent(replies)
+    words = (_word * (len(lent) // 14))()
+    number = _remainders(lent, len(lent), words, len(words))
+    answer = _answer(number)
+    return Divided(answer, list(words) if answer == "divided" else [], _refusal(number))

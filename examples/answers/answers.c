@@ -60,6 +60,21 @@ static void correct(const char *digits, const char *marks, uint32_t word, uint32
     show(mode_s_correct(message, length, confidence, confidence_length, word, limit));
 }
 
+static void remainders(const char *digits, size_t count) {
+    uint8_t replies[28];
+    uint32_t words[2] = {0, 0};
+    size_t length = bytes_of(digits, replies);
+    printf("mode_s_remainders %s, %zu\n", digits, count);
+    uint64_t number = mode_s_remainders(replies, length, words, count);
+    if (mode_s_answer(number) != MODE_S_DIVIDED) {
+        show(number);
+        return;
+    }
+    printf("  %016" PRIX64 "  %s", number, mode_s_answer_name(mode_s_answer(number)));
+    for (size_t i = 0; i < count; i++) printf(" %06" PRIX32, words[i]);
+    putchar('\n');
+}
+
 int main(void) {
     uint8_t message[7] = {0};
     seal_reply("00008000000000", 0x123456);
@@ -76,6 +91,8 @@ int main(void) {
     correct("00000000EB2472", "00008000000000", 0x123456, 24);
     correct("00000001000000", "00000001FFF409", 0x000000, 15);
     correct("A800089D8094E33A6004E4B8A523", "0000000000000000000000000001", 0x4953D4, 12);
+    remainders("8D4840D6202CC371C32CE0576098", 1);
+    remainders("8D4840D6202CC371C32CE05760988D4840D6202CC371C32CE0576099", 2);
     seal_reply("000000000000", 0x123456);
     correct("00000000EB2472", "0000800000000000000000000000", 0x123456, 24);
     seal_reply("00008000000000", 0x1000000);
@@ -86,5 +103,6 @@ int main(void) {
     show(mode_s_receive(0x000002, NULL, 0));
     puts("mode_s_correct 00000000000000, null pointer, length 0, 000000, 0");
     show(mode_s_correct(message, sizeof message, NULL, 0, 0x000000, 0));
+    remainders("8D4840D6202CC371C32CE0576098", 2);
     return fflush(stdout) == 0 ? 0 : 1;
 }

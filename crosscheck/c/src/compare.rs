@@ -2,10 +2,12 @@
 //! with crosscheck's own implementation: the number, the message after the call,
 //! the buffers that must stay, and the bytes around all of them.
 
-use crate::library::{self, Guarded};
+use crate::library::{self, Guarded, GuardedWords};
 use crate::{inputs, packing};
 use crosscheck::random::Random;
-use crosscheck::rules::{interrogation_seal, reply_seal, transponder, Heard};
+use crosscheck::rules::{
+    interrogation_seal, remainder_of_message, reply_seal, transponder, Heard,
+};
 use crosscheck::sensor::{sense, Answer};
 use crosscheck::tally::{Group, Tally};
 use crosscheck::text::hex;
@@ -41,7 +43,17 @@ fn groups() -> Vec<Group> {
             windows.extend((0..=last).map(|window| format!("{answer}, {bytes}, {window}")));
         }
     }
-    let nulls = ["reply", "interrogation", "receive", "correct", "correct, marks alone"];
+    answers.extend(["recording of none", "recording of one", "recording of more"].map(String::from));
+    refusals.extend(["recording 1, no multiple", "recording 1, not as many"].map(String::from));
+    let nulls = [
+        "reply",
+        "interrogation",
+        "receive",
+        "correct",
+        "correct, marks alone",
+        "recording",
+        "recording, words alone",
+    ];
     vec![
         Group::each(ANSWERS, answers),
         Group::each(REFUSALS, refusals),
@@ -151,6 +163,35 @@ impl Run {
         })
     }
 
+    /// The division of a recording: where it is refused, every word stays.
+    fn divide(&mut self) -> Result<(), Wrong> {
+        let (bytes, count) = inputs::recording(&mut self.random);
+        let mut replies = self.lend(&bytes);
+        let salt = self.random.number();
+        let mut words = GuardedWords::new(count, salt, self.random.one_in(2));
+        let number = library::remainders(&mut replies, &mut words);
+        let (expected, after) = if bytes.len() == 14 * count {
+            (packing::DIVIDED, bytes.chunks(14).map(remainder_of_message).collect())
+        } else {
+            (packing::refused(1), words.handed().to_vec())
+        };
+        match due_row(expected) {
+            Some(_) if bytes.len() % 14 != 0 => self.tally.add(REFUSALS, "recording 1, no multiple"),
+            Some(_) => self.tally.add(REFUSALS, "recording 1, not as many"),
+            None => self.tally.add(ANSWERS, ["recording of none", "recording of one", "recording of more"][count.min(2)]),
+        }
+        self.note_null("recording", &bytes, &replies);
+        if words.is_null() && !bytes.is_empty() {
+            self.tally.add(NULLS, "recording, words alone");
+        }
+        let whole = replies.is_untouched() && words.is_whole();
+        let right = number == expected && words.content() == after && whole;
+        right.then_some(()).ok_or_else(|| {
+            let (bytes, content) = (hex(&bytes), words.content());
+            Wrong(format!("recording {bytes} {count}: {number:016X} {content:X?}, due {expected:016X} {after:X?}"))
+        })
+    }
+
     fn count_sensed(&mut self, answer: Answer, bytes: usize) {
         let word = match answer {
             Answer::Refused(row) => return self.tally.add(REFUSALS, format!("correct {row}")),
@@ -180,10 +221,11 @@ fn due_row(number: u64) -> Option<u64> {
 pub fn compare() -> bool {
     let mut run = Run { random: Random::new(SEED), tally: Tally::new(groups()) };
     for call in 0..CALLS {
-        let result = match call % 4 {
+        let result = match call % 5 {
             0 => run.seal(true),
             1 => run.seal(false),
             2 => run.receive(),
+            3 => run.divide(),
             _ => run.correct(),
         };
         if let Err(Wrong(what)) = result {

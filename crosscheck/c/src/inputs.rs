@@ -127,3 +127,17 @@ pub fn sensed(random: &mut Random) -> Sensed {
     };
     Sensed { message: bytes, confidence, word, limit }
 }
+
+/// A recording and the number of words lent for it: a few long replies, none at
+/// times, and now and then some bytes or words too many or too few.
+pub fn recording(random: &mut Random) -> (Vec<u8>, usize) {
+    let count = *random.pick(&[0, 1, 1, 2, 3, 7, 20]);
+    let (length, words) = match random.below(8) {
+        0 => (14 * count + random.from_to(1, 13), count),
+        1 => (14 * count, count + random.from_to(1, 3)),
+        2 => (14 * (count + 1), count),
+        3 => (random.from_to(0, 40), random.from_to(0, 3)),
+        _ => (14 * count, count),
+    };
+    (random.bytes(length), words)
+}

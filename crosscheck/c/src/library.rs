@@ -1,5 +1,5 @@
-//! The four functions of the C library, each behind a safe one that lends it
-//! buffers with guard bytes on both sides.
+//! The five functions of the C library, each behind a safe one that lends it
+//! buffers with guard bytes, or guard words, on both sides.
 //!
 //! The declarations are those of include/mode_s.h. Nothing checks them against
 //! it, nor the header against the library; that every part comes back right is
@@ -17,6 +17,12 @@ mod declared {
             confidence_length: usize,
             word: u32,
             limit: u32,
+        ) -> u64;
+        pub fn mode_s_remainders(
+            replies: *const u8,
+            length: usize,
+            remainders: *mut u32,
+            count: usize,
         ) -> u64;
     }
 }
@@ -74,6 +80,52 @@ impl Guarded {
     }
 }
 
+/// Words to be written, with guard words around them. None can be a null pointer.
+pub struct GuardedWords {
+    words: Vec<u32>,
+    before: Vec<u32>,
+    null: bool,
+}
+
+impl GuardedWords {
+    pub fn new(count: usize, salt: u64, null: bool) -> GuardedWords {
+        let word = |at: usize| (salt as u32).wrapping_mul(2 * at as u32 + 1) ^ (salt >> 32) as u32;
+        let words: Vec<u32> = (0..count + 2 * GUARD).map(word).collect();
+        GuardedWords { before: words.clone(), words, null: null && count == 0 }
+    }
+
+    fn count(&self) -> usize {
+        self.words.len() - 2 * GUARD
+    }
+
+    fn pointer(&mut self) -> *mut u32 {
+        if self.null {
+            std::ptr::null_mut()
+        } else {
+            self.words[GUARD..].as_mut_ptr()
+        }
+    }
+
+    pub fn is_null(&self) -> bool {
+        self.null
+    }
+
+    pub fn content(&self) -> &[u32] {
+        &self.words[GUARD..GUARD + self.count()]
+    }
+
+    /// The words as they were before the call.
+    pub fn handed(&self) -> &[u32] {
+        &self.before[GUARD..GUARD + self.count()]
+    }
+
+    /// Whether no guard word has changed.
+    pub fn is_whole(&self) -> bool {
+        let end = GUARD + self.count();
+        self.words[..GUARD] == self.before[..GUARD] && self.words[end..] == self.before[end..]
+    }
+}
+
 // The buffers are valid for their lengths, or null with the length 0, and no
 // two of them overlap: that is all the header asks for.
 
@@ -103,7 +155,24 @@ pub fn correct(message: &mut Guarded, confidence: &mut Guarded, word: u32, limit
     }
 }
 
-/// The sensor on plain slices, for the measurement of speed.
+pub fn remainders(replies: &mut Guarded, words: &mut GuardedWords) -> u64 {
+    let (length, count) = (replies.length(), words.count());
+    unsafe { declared::mode_s_remainders(replies.pointer(), length, words.pointer(), count) }
+}
+
+/// The same on plain slices, for the measurement of speed.
+pub fn remainders_of_slices(replies: &[u8], words: &mut [u32]) -> u64 {
+    let (length, count) = (replies.len(), words.len());
+    unsafe { declared::mode_s_remainders(replies.as_ptr(), length, words.as_mut_ptr(), count) }
+}
+
+/// The reply seal on a plain slice.
+pub fn seal_slice(message: &mut [u8], word: u32) -> u64 {
+    let length = message.len();
+    unsafe { declared::mode_s_seal_reply(message.as_mut_ptr(), length, word) }
+}
+
+/// The sensor on plain slices.
 pub fn correct_slices(message: &mut [u8], confidence: &[u8], word: u32, limit: u32) -> u64 {
     let (length, marks) = (message.len(), confidence.len());
     unsafe {

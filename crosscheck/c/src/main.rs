@@ -10,7 +10,7 @@ use std::process::ExitCode;
 
 const USAGE: &str = "\
 crosscheck-c compare   compare a million calls of the C library with crosscheck's own implementation
-crosscheck-c speed     measure mode_s_correct against a sensor in Rust that was written for speed
+crosscheck-c speed     measure mode_s_remainders, mode_s_seal_reply and mode_s_correct against Rust that was written for speed
 ";
 
 fn main() -> ExitCode {

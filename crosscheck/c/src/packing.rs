@@ -6,6 +6,7 @@ use crosscheck::rules::Heard;
 use crosscheck::sensor::{Answer, Mark};
 
 pub const SEALED: u64 = 2;
+pub const DIVIDED: u64 = 11;
 
 pub fn refused(row: u8) -> u64 {
     u64::from(row) << 8 | 1

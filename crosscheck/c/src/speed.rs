@@ -1,6 +1,8 @@
-//! The subcommand `speed`: nanoseconds a call of `mode_s_correct`, beside the
-//! same in Rust (the sensor of crosscheck's `fast_sift`), in one run on the same
-//! calls. Each call has its own copy of the message, made before the clock starts.
+//! The subcommand `speed`: nanoseconds a reply in `mode_s_remainders`, beside a
+//! loop in Rust by the byte table (the division of crosscheck's `fast_sift`), and
+//! nanoseconds a call of `mode_s_seal_reply` and of `mode_s_correct`, beside the
+//! same in Rust; in one run, in turn, on the same calls. Each call of the two has
+//! its own copy of the message, made before the clock starts.
 
 use crate::library;
 use crosscheck::fast_sift::{dense_window, fits, number_of, remainder};
@@ -13,6 +15,10 @@ use std::time::Instant;
 /// The calls of each kind, and the runs over them; the fastest run counts.
 const CALLS: usize = 10_000;
 const RUNS: usize = 201;
+
+/// The long replies of a recording, and the runs over it.
+const REPLIES: usize = 1_000_000;
+const RECORDING_RUNS: usize = 51;
 
 #[derive(Clone)]
 struct Call {
@@ -50,6 +56,18 @@ fn correct_in_c(call: &mut Call) -> u64 {
     library::correct_slices(&mut call.message, &call.confidence, call.word, call.limit)
 }
 
+/// The reply seal on 14 bytes in Rust, by the byte table.
+fn seal_in_rust(call: &mut Call) -> u64 {
+    call.message[11..].fill(0);
+    let parity = remainder(&call.message) ^ call.word;
+    call.message[11..].copy_from_slice(&parity.to_be_bytes()[1..]);
+    2
+}
+
+fn seal_in_c(call: &mut Call) -> u64 {
+    library::seal_slice(&mut call.message, call.word)
+}
+
 /// A long reply that carries its word, hit in eight bits of a window (unless it
 /// is to be clean), with these bits marked low, or others, and some more.
 fn call(random: &mut Random, kind: &str) -> Call {
@@ -83,26 +101,66 @@ fn fastest(calls: &[Call], correct: fn(&mut Call) -> u64, best: &mut f64) {
     *best = best.min(start.elapsed().as_nanos() as f64 / calls.len() as f64);
 }
 
+/// One million long replies, divided in one call and by a loop in Rust, and the
+/// fastest of some runs of each. False where a remainder differs.
+fn recording(random: &mut Random) -> bool {
+    let replies = random.bytes(14 * REPLIES);
+    let (mut ours, mut theirs) = (vec![0; REPLIES], vec![0; REPLIES]);
+    let (mut our_time, mut their_time) = (f64::INFINITY, f64::INFINITY);
+    for _ in 0..RECORDING_RUNS {
+        let start = Instant::now();
+        let number = library::remainders_of_slices(black_box(&replies), black_box(&mut ours));
+        our_time = our_time.min(start.elapsed().as_nanos() as f64 / REPLIES as f64);
+        let start = Instant::now();
+        for (word, reply) in black_box(&mut theirs).iter_mut().zip(replies.chunks_exact(14)) {
+            *word = remainder(reply);
+        }
+        black_box(&theirs);
+        their_time = their_time.min(start.elapsed().as_nanos() as f64 / REPLIES as f64);
+        if number != 11 || ours != theirs {
+            println!("WRONG: a recording: {number:016X}, or a remainder differs");
+            return false;
+        }
+    }
+    println!("nanoseconds a reply of {REPLIES}: mode_s_remainders, Rust by the byte table, ratio");
+    println!("{our_time:17.2} {their_time:7.2} {:6.2}", our_time / their_time);
+    true
+}
+
+/// The fastest runs of two ways to do one kind of call, in a line of the table.
+/// False where they do not agree.
+fn race(name: &str, calls: &[Call], number: u64, ways: [fn(&mut Call) -> u64; 2]) -> bool {
+    for call in calls {
+        let (mut ours, mut theirs) = (call.clone(), call.clone());
+        let (x, y) = (ways[0](&mut ours), ways[1](&mut theirs));
+        if x != y || x & 0xFF != number || ours.message != theirs.message {
+            println!("WRONG: {name}: {x:016X} and {y:016X}");
+            return false;
+        }
+    }
+    let (mut ours, mut theirs) = (f64::INFINITY, f64::INFINITY);
+    for _ in 0..RUNS {
+        fastest(calls, ways[0], &mut ours);
+        fastest(calls, ways[1], &mut theirs);
+    }
+    println!("{name:9} {ours:7.1} {theirs:7.1} {:6.2}", ours / theirs);
+    true
+}
+
 /// False where the two do not agree.
 pub fn speed() -> bool {
     let mut random = Random::new(112);
-    println!("nanoseconds a call, 112 bits: kind, mode_s_correct, Rust, ratio");
-    for (kind, number) in [("clean", 7), ("corrected", 10), ("dense", 8), ("no fit", 9)] {
-        let calls: Vec<Call> = (0..CALLS).map(|_| call(&mut random, kind)).collect();
-        for call in &calls {
-            let (mut ours, mut theirs) = (call.clone(), call.clone());
-            let (x, y) = (correct_in_c(&mut ours), correct_in_rust(&mut theirs));
-            if x != y || x & 0xFF != number || ours.message != theirs.message {
-                println!("WRONG: {kind}: {x:016X} and {y:016X}");
-                return false;
-            }
-        }
-        let (mut ours, mut theirs) = (f64::INFINITY, f64::INFINITY);
-        for _ in 0..RUNS {
-            fastest(&calls, correct_in_c, &mut ours);
-            fastest(&calls, correct_in_rust, &mut theirs);
-        }
-        println!("{kind:9} {ours:7.1} {theirs:7.1} {:6.2}", ours / theirs);
+    if !recording(&mut random) {
+        return false;
     }
-    true
+    println!("nanoseconds a call, 112 bits: answer, C library, Rust, ratio");
+    let mut sets = ["clean", "corrected", "dense", "no fit"].map(|kind| {
+        let calls: Vec<Call> = (0..CALLS).map(|_| call(&mut random, kind)).collect();
+        (kind, calls)
+    });
+    let sealed: Vec<Call> = sets[0].1.clone();
+    race("sealed", &sealed, 2, [seal_in_c, seal_in_rust])
+        && sets.iter_mut().zip([7, 10, 8, 9]).all(|((kind, calls), number)| {
+            race(kind, calls, number, [correct_in_c, correct_in_rust])
+        })
 }
