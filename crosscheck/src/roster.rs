@@ -1,4 +1,4 @@
-//! What `roster` has to print for a whole input (document 02, Points 4 and 12):
+//! What `roster` has to print for a whole input (document 02, Points 4, 12 and 14):
 //! one roll-call table, and a line a call.
 //!
 //! The table is lent memory: records, places and a count, which lines can set to
@@ -12,7 +12,7 @@ use std::collections::BTreeMap;
 pub const MOST_LENGTH: usize = 1024;
 
 /// The longest table that a call takes.
-pub const LONGEST: usize = 1000;
+pub const LONGEST: usize = 384;
 
 const HIGHEST_ADDRESS: u32 = 0xFF_FFFF;
 
@@ -212,7 +212,7 @@ impl Table {
         Table { records: vec![BLANK; records], places: vec![0; places], count: 0 }
     }
 
-    /// The lengths differ, or lie outside 1 to 1000.
+    /// The lengths differ, or lie outside 1 to the longest.
     fn wrong_lengths(&self) -> bool {
         self.records.len() != self.places.len() || !(1..=LONGEST).contains(&self.records.len())
     }
@@ -501,7 +501,9 @@ mod tests {
             assert!(last.ends_with(&format!(" {row}")), "{setting}: {last}");
         };
         refused("table 0 0", "clear", 8);
-        refused("table 1001 1001", "clear", 8);
+        refused("table 385 385", "clear", 8);
+        refused("table 385 385", "find 0", 8);
+        refused("table 384 384", "find 1000000", 3);
         refused("table 2 3", "find 0", 8);
         refused("count 17", "find 0", 8);
         refused("count 1", "find 0", 8);

@@ -15,7 +15,7 @@ pub const MENDED: &str = "cleared, by what was damaged";
 pub const CALLS: [&str; 3] = ["add", "remove", "find"];
 
 /// Lengths of tables that are filled up.
-pub const FILLED: [usize; 6] = [1000, 999, 16, 3, 2, 1];
+pub const FILLED: [usize; 6] = [LONGEST, LONGEST - 1, 16, 3, 2, 1];
 
 fn made(text: String) -> Made {
     Made::plain(text.into_bytes())
@@ -169,7 +169,7 @@ pub const LENGTHS: [Damage; 4] = [
     ("a place more than records", |table, _| table.places.push(0)),
     ("a record more than places", |table, _| table.records.push(Table::new(1, 0).records[0])),
     ("no records and no places", |table, _| *table = Table::new(0, 0)),
-    ("1001 records and places", |table, _| {
+    ("one record and place too many", |table, _| {
         table.records.resize(LONGEST + 1, Table::new(1, 0).records[0]);
         table.places.resize(LONGEST + 1, 0);
     }),

@@ -6,7 +6,7 @@
 //! difference, divided by the lines, is the time of a call (with what its answer
 //! takes longer to read and print).
 
-use crate::roster;
+use crate::roster::{self, LONGEST};
 use crate::run::{first_difference, run, Feed, TemporaryFile};
 use crate::speed::{median, seconds};
 use crate::text::MOST_BYTES;
@@ -21,7 +21,7 @@ const RUNS: usize = 101;
 /// The runs of the calls on the map.
 const ROUNDS: usize = 1000;
 
-const LENGTHS: [usize; 3] = [10, 100, 1000];
+const LENGTHS: [usize; 3] = [10, 100, LONGEST];
 
 type Map = BTreeMap<u32, (Option<i32>, u64, u8)>;
 

@@ -85,7 +85,7 @@ row (recording s n) = wrongLength
 -- 'word, address or register above FFFFFF'; 'density limit above 24'; 'first bit contradicts the length', where 'a first
 -- bit 0 belongs to n = 56 and 1 to n = 112' (row 1 comes before it, so the length is one of the two); 'own address 000000
 -- or FFFFFF'; 'the step is neither 25 nor 100, or the altitude is off it or out of that code's range' (document 02, Point 1);
--- 'the two lengths differ or lie outside 1 to 1000', or the table is not sound; 'the address is new and every place is live'
+-- 'the two lengths differ or lie outside 1 to' the largest, or the table is not sound; 'the address is new and every place is live'
 -- (Point 4); 'RC 1 or 2 with nothing opened, or RC 0 with NC 0', and 'RC 1 or 2 with NC above the opened last', 'only where the
 -- answer is 'own' and the format this one' (Point 7); 's outside 1 to 16, a message not of 2 to 16 whole segments, or a buffer not of 14 bytes
 -- for each transmission of that call' (Point 10); row 1 of a recording: it has not 14 bytes for each word (Point 13).

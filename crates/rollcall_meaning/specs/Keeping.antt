@@ -26,7 +26,7 @@ CheckedIsSound = (rs : List Record) (ps : List ℕ) (n : ℕ) → (isSound rs ps
 abbrev pub SoundTable : Table → Type 0
 SoundTable t = Sound (t .records) (t .places) (t .count)
 
--- 'the two lengths differ or lie outside 1 to 1000', the other way round
+-- 'the two lengths differ or lie outside 1 to' the largest, the other way round
 abbrev pub RightLengths : Table → Type 0
 RightLengths t = (length (t .records) ≡ length (t .places)) × ((1 ≤ length (t .records)) × (length (t .records) ≤ largest))
 

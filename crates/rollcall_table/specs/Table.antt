@@ -1,4 +1,4 @@
--- The roll-call table (document 02, Point 4): the records, one per aircraft; the places that list the live ones; their count.
+-- The roll-call table (document 02, Points 4, 12 and 14): the records, one per aircraft; the places that list the live ones; their count.
 --
 -- A place is a record's number, from 0. Whether a table is sound is a relation, `Sound`, in the words of Point 4, and a test,
 -- `isSound`, which the code makes; that the two agree is a theorem.
@@ -14,9 +14,9 @@ use Rattle.rollcall_table.specs.declared.Sighting.{Sighting}
 use Rattle.rollcall_table.specs.declared.Reading.the-variants.{Missing}
 use Rattle.rollcall_table.specs.declared.Grade.the-variants.{Clean}
 
--- The largest length of a table.
+-- 'Make 384 the largest table length' (Point 14; it was 1000).
 abbrev pub largest : ℕ
-largest = 1000
+largest = 384
 
 -- What stands where there is no record.
 abbrev pub blank : Record
@@ -32,7 +32,7 @@ placeAt ps k = getD ps k 0
 abbrev pub addressAt : List Record → ℕ → ℕ
 addressAt rs p = recordAt rs p .address
 
--- 'the two lengths differ or lie outside 1 to 1000'
+-- 'the two lengths differ or lie outside 1 to' the largest
 abbrev pub rightLengths : ℕ → ℕ → Bool
 rightLengths m k = eqb m k && (leb 1 m && leb m largest)
 

@@ -24,7 +24,7 @@ pub use standing::beats;
 pub use standing::grade_number;
 
 // The largest length of a table.
-const LARGEST: usize = 1000;
+const LARGEST: usize = 384;
 
 // An altitude in feet, or that there is none.
 pub enum Reading {
