@@ -1,9 +1,9 @@
-// Division by the Mode S generator: the register, R of a field in three ways, the remainder of a message, the address read
-// from it, the address overlay, and the register run backwards.
+// Division by the Mode S generator: the register, R of a field in document 01's three ways and by folding, the remainder of a
+// message, the address read from it, the address overlay, the register run backwards, and the byte table itself.
 //
-// Every public function takes any input and answers a Word: the value, or the number of the refusal. Its contract says
-// which, by a definition of specs/Answers.antt. Private workers take a table as a lent array, so that a call copies
-// it at most once.
+// Every public function takes any input and answers a Word, the value or the number of the refusal (the byte table, which nothing
+// can refuse, is a value alone). Its contract says which, by a definition of specs/Answers.antt. Private workers take a table as a
+// lent array, so that a call copies it at most once.
 ghost use Prim.Native.Nat.{_<_};
 ghost use mathlib.Core.Path.{_≡_};
 

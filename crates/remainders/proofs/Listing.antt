@@ -1,9 +1,9 @@
 -- The remainders, one after the other: a list with each reply's remainder in its place is the list of the definition.
 use mathlib.Core.Path.{_≡_, refl, sym, ap, ap₂, _∙_, subst}
 use mathlib.Core.Logic.{_⊎_, inl, inr}
-use mathlib.Core.List.{List, [], _∷_}
+use mathlib.Core.List.{List}
 use Prim.Native.Nat.{ℕ, zero, suc, _+_, _*_, _<_, _≤_}
-use native.Mathlib.Nat.{mul-suc, eq-or-lt-of-le, not-suc-le-zero}
+use native.Mathlib.Nat.{eq-or-lt-of-le, not-suc-le-zero}
 use native.Mathlib.Omega.{arith}
 use lib.ListN.{length, getD, take, drop, set, length-drop}
 use lib.Seq.{getD-set-same, getD-set-other, drop-drop, ext-getD, length-take-le}

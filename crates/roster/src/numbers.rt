@@ -1,5 +1,5 @@
 // The forms of the arguments, and the numbers that they write.
-ghost use Prim.Native.Nat.{_≤_, _<_};
+ghost use Prim.Native.Nat.{_<_};
 use reading::after;
 use rollcall::Grade;
 use rollcall::Reading;

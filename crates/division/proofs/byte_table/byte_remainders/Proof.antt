@@ -1,5 +1,4 @@
 -- `division::byte_table::byte_remainders` meets its contract: the table's rule is one computed test over its 256 entries.
-use mathlib.Core.Path.{sym}
 use Rattle.division.proofs.Table.{reduceBy, quickDown, quick, quickFrom, quick-table}
 use Rattle.division.specs.Polynomial.{downwards}
 use Rattle.division.proofs.byte_table.byte_remainders.Statement.{statement}

@@ -3,7 +3,7 @@ use mathlib.Core.Path.{_≡_, sym, ap, _∙_}
 use Prim.Native.Nat.{ℕ, _*_, _/_, _%_}
 use native.Mathlib.Omega.{arith}
 use lib.Bits.{bitXor, xor-zero-r}
-use Rattle.division.specs.Division.{backward, generator}
+use Rattle.division.specs.Division.{backward}
 use Rattle.division.proofs.Xor.{xor-half}
 use Rattle.division.proofs.Dividing.{generator-is}
 use Rattle.division.proofs.register.unshift_bit.Statement.{statement}
