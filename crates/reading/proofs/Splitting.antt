@@ -119,6 +119,24 @@ pub column-then : (a t : List ℕ) → above space a ≡ true → columns (a ++ 
 unfolding columns
 column-then = piece-then space columns (λ x s. refl)
 
+-- ---- how long the columns are
+
+-- the bytes of some columns, each with the space behind it
+unfoldable pub columnsSize : List (List ℕ) → ℕ
+columnsSize [] = 0
+columnsSize (c ∷ cs) = length c + 1 + columnsSize cs
+
+-- no byte of a line is lost: its columns have its bytes, but the last has no space behind it
+pub columns-size : (s : List ℕ) → columnsSize (columns s) ≡ length s + 1
+unfolding columns columnsSize
+columns-size [] = refl
+columns-size (x ∷ s) = cases (eqb x space) (columns s) (columns-size s)
+  where
+    cases : (t : Bool) (cs : List (List ℕ)) → columnsSize cs ≡ length s + 1 → columnsSize (cond t ([] ∷ cs) (inFirst x cs)) ≡ suc (length s) + 1
+    cases true cs e = omega arith
+    cases false [] e = absurd (omega arith)
+    cases false (c ∷ cs) e = omega arith
+
 -- ---- lines
 
 -- a text that has a byte, when the search for the line feed found the place k

@@ -2,4 +2,5 @@
 pub mod Forms
 pub mod Texts
 pub mod Rows
+pub mod Long
 pub mod Laws

@@ -38,6 +38,14 @@ pub no-output : (n : ℕ) → outputLines n [] ≡ []
 unfolding outputLines
 no-output n = refl
 
+pub line-text : (n : ℕ) (l : List ℕ) → outputLine n l ≡ decimalText n ++ answerText (columns l)
+unfolding outputLine
+line-text n l = refl
+
+pub next-output-line : (n : ℕ) (l : List ℕ) (ls : List (List ℕ)) → outputLines n (l ∷ ls) ≡ outputLine n l ++ outputLines (n + 1) ls
+unfolding outputLines
+next-output-line n l ls = refl
+
 pub output-line : (n : ℕ) (l : List ℕ) (ls : List (List ℕ))
     → outputLines n (l ∷ ls) ≡ (decimalText n ++ spaced (answerColumns (columns l))) ++ lineFeed ∷ outputLines (n + 1) ls
 unfolding outputLines outputLine answerText

@@ -11,7 +11,8 @@ ghost use Rattle.text.specs.Output.{append};
 ghost use Rattle.report.specs.Sift.{answerText};
 use crate::answer::write_request;
 
-pub(crate) fn write_answer(out: &mut [u8], taken: usize, line: &[u8]) -> usize
+// What follows the line's number.
+pub fn write_answer(out: &mut [u8], taken: usize, line: &[u8]) -> usize
     ensures { λ r. ⌜ (now (out .exit), r) ≡ append (now (out .entry), taken) (answerText (columns (now (line .entry)))) ⌝ }
     ensures { λ r. ⌜ length (answerText (columns (now (line .entry)))) ≤ 19 + 24 * length (now (line .entry)) ⌝ }
 {

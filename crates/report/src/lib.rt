@@ -24,6 +24,8 @@ mod answer;
 mod columns;
 mod lines;
 
+pub use columns::write_answer;
+
 // The output stands at the start of the buffer, whose other bytes stay; the answer is its length. The third promise
 // follows from the first two: with it a caller lends `&out[..r]` without a proof.
 pub fn sift(input: &[u8], out: &mut [u8; 1572928]) -> usize

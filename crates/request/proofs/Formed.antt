@@ -2,7 +2,7 @@
 use mathlib.Core.Path.{_≡_}
 use mathlib.Core.Bool.{Bool, true, _&&_, and-eq-true-iff}
 use mathlib.Core.List.{List}
-use Prim.Native.Nat.{ℕ, _%_, _≤_}
+use Prim.Native.Nat.{ℕ, _+_, _%_, _≤_}
 use native.Mathlib.Omega.{arith}
 use lib.ListN.{length}
 use lib.Dec.{leb, eqb}
@@ -27,12 +27,15 @@ all-four a b c d e =
 
 -- ---- one column
 
+bytes-digits : (s : List ℕ) → isBytesColumn s ≡ true → length s ≤ 28
+unfolding isBytesColumn
+bytes-digits s e =
+    let tests = all-four (leb 2 (length s)) (leb (length s) 28) (eqb (length s % 2) 0) (all isHexDigit s) e in
+    leb-true (length s) 28 (tests .1)
+
 -- 28 digits write 14 bytes
 bytes-fit : (s : List ℕ) → isBytesColumn s ≡ true → length (hexBytes s) ≤ 14
-unfolding isBytesColumn
-bytes-fit s e =
-    let tests = all-four (leb 2 (length s)) (leb (length s) 28) (eqb (length s % 2) 0) (all isHexDigit s) e in
-    omega (arith, hexBytes-length s, leb-true (length s) 28 (tests .1))
+bytes-fit s e = omega (arith, hexBytes-length s, bytes-digits s e)
 
 word-digits : (s : List ℕ) → isWordColumn s ≡ true → length s ≡ 6
 unfolding isWordColumn
@@ -65,3 +68,8 @@ module _ (m c w l : List ℕ) (e : wellFormed m c w l ≡ true) where
 
   pub limit-decimal : all isDecimalDigit l ≡ true
   limit-decimal = limit-digits l (columns-formed .3) .1
+
+  -- 28 digits and 28, 6 and 2
+  pub all-digits : length m + length c + length w + length l ≤ 64
+  all-digits =
+      omega (arith, bytes-digits m (columns-formed .0), bytes-digits c (columns-formed .1), word-size, limit-size)

@@ -11,5 +11,6 @@ pub use output::put_byte;
 pub use output::put_bytes;
 pub use output::put_decimal;
 pub use output::put_hex;
+pub use output::put_long_decimal;
 pub use output::put_word;
 pub use signed::put_signed;

@@ -59,14 +59,21 @@ pub fn put_word(out: &mut [u8], taken: usize, w: u32) -> usize
     put_pair(out, last, (w % 256) as u8)
 }
 
-// Without leading zeros. A number has its digits but the last, if it has more than one, and then the last.
+// Without leading zeros.
 pub fn put_decimal(out: &mut [u8], taken: usize, n: u32) -> usize
+    ensures { λ r. ⌜ (now (out .exit), r) ≡ append (now (out .entry), taken) (decimalText n) ⌝ }
+{
+    put_long_decimal(out, taken, n as u64)
+}
+
+// The same of a number of 64 bits. A number has its digits but the last, if it has more than one, and then the last.
+pub fn put_long_decimal(out: &mut [u8], taken: usize, n: u64) -> usize
     ensures { λ r. ⌜ (now (out .exit), r) ≡ append (now (out .entry), taken) (decimalText n) ⌝ }
 {
     if n < 10 {
         put_byte(out, taken, digit_of(n as u8))
     } else {
-        let next = put_decimal(out, taken, n / 10);
+        let next = put_long_decimal(out, taken, n / 10);
         put_byte(out, next, digit_of((n % 10) as u8))
     }
 }
