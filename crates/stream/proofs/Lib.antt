@@ -1,0 +1,5 @@
+-- The laws of a recording in pieces.
+pub mod Keeping
+pub mod Printing
+pub mod Refusing
+pub mod Laws

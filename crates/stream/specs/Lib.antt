@@ -1,0 +1,2 @@
+-- What a reader must believe of a recording in pieces.
+pub mod Stream
