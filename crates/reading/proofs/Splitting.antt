@@ -34,6 +34,29 @@ before-take b (x ∷ s) = cases (eqb x b) (before-take b s)
     cases true e = refl
     cases false e = ap (λ (l : List ℕ). x ∷ l) e
 
+-- ---- a text that a byte does not part
+
+unfoldable pub Lacks : ℕ → List ℕ → Type 0
+Lacks b [] = Unit {0}
+Lacks b (x ∷ s) = (x ≡ b → ⊥) × Lacks b s
+
+pub lacks-none : (b : ℕ) → Lacks b []
+unfolding Lacks
+lacks-none b = tt
+
+pub lacks-more : (b x : ℕ) (s : List ℕ) → Lacks b s → (x ≡ b → ⊥) → Lacks b (s ++ x ∷ [])
+unfolding Lacks
+lacks-more b x [] h k = (k, tt)
+lacks-more b x (y ∷ s) h k = (h .0, lacks-more b x s (h .1) k)
+
+above-lacks : (b : ℕ) (s : List ℕ) → above b s ≡ true → Lacks b s
+unfolding Lacks
+above-lacks b [] e = tt
+above-lacks b (x ∷ s) e =
+    let parts = above-parts b x s e in
+    let other : x ≡ b → ⊥ = λ f. omega (arith, parts .0) in
+    (other, above-lacks b s (parts .1))
+
 -- ---- the pieces that a byte parts: lines and columns differ in the byte, and in the pieces of an empty text
 
 module _ (b : ℕ) (pieces : List ℕ → List (List ℕ)) (step : (x : ℕ) (s : List ℕ) → pieces (x ∷ s) ≡ cond (eqb x b) ([] ∷ pieces s) (inFirst x (pieces s))) where
@@ -70,15 +93,24 @@ module _ (b : ℕ) (pieces : List ℕ → List (List ℕ)) (step : (x : ℕ) (s 
   only-piece none x [] h = step x [] ∙ one-more x [] (eqb x b) h (λ j. none x)
   only-piece none x (y ∷ s) h = step x (y ∷ s) ∙ one-more x (y ∷ s) (eqb x b) h (λ j. ap (inFirst x) (only-piece none y s j))
 
-  -- a text of bytes above b, a b, and more: the text is the first piece
-  piece-then : (a t : List ℕ) → above b a ≡ true → pieces (a ++ b ∷ t) ≡ a ∷ pieces t
+  -- a text without b, a b, and more: the text is the first piece
+  piece-then : (a t : List ℕ) → Lacks b a → pieces (a ++ b ∷ t) ≡ a ∷ pieces t
+  unfolding Lacks
   piece-then [] t e = step b t ∙ picked (eqb b b) ([] ∷ pieces t) (inFirst b (pieces t)) (eq-eqb b b refl)
   piece-then (x ∷ a) t e =
-      let parts = above-parts b x a e in
-      let other : x ≡ b → ⊥ = λ f. omega (arith, parts .0) in
       step x (a ++ b ∷ t)
-      ∙ passed-over (eqb x b) ([] ∷ pieces (a ++ b ∷ t)) (inFirst x (pieces (a ++ b ∷ t))) (ne-eqb x b other)
-      ∙ ap (inFirst x) (piece-then a t (parts .1))
+      ∙ passed-over (eqb x b) ([] ∷ pieces (a ++ b ∷ t)) (inFirst x (pieces (a ++ b ∷ t))) (ne-eqb x b (e .0))
+      ∙ ap (inFirst x) (piece-then a t (e .1))
+
+  -- and alone, if it has a byte
+  piece-alone : ((x : ℕ) → inFirst x (pieces []) ≡ (x ∷ []) ∷ []) → (x : ℕ) (a : List ℕ) → Lacks b (x ∷ a) → pieces (x ∷ a) ≡ (x ∷ a) ∷ []
+  unfolding Lacks
+  piece-alone none x [] e =
+      step x [] ∙ passed-over (eqb x b) ([] ∷ pieces []) (inFirst x (pieces [])) (ne-eqb x b (e .0)) ∙ none x
+  piece-alone none x (y ∷ a) e =
+      step x (y ∷ a)
+      ∙ passed-over (eqb x b) ([] ∷ pieces (y ∷ a)) (inFirst x (pieces (y ∷ a))) (ne-eqb x b (e .0))
+      ∙ ap (inFirst x) (piece-alone none y a (e .1))
 
 -- ---- columns
 
@@ -109,15 +141,11 @@ whole-column (x ∷ s) k e h = only-piece space columns (λ x s. refl) (λ x. re
 pub column-alone : (a : List ℕ) → above space a ≡ true → columns a ≡ a ∷ []
 unfolding columns
 column-alone [] e = refl
-column-alone (x ∷ a) e =
-    let parts = above-parts space x a e in
-    let other : x ≡ space → ⊥ = λ f. omega (arith, parts .0) in
-    passed-over (eqb x space) ([] ∷ columns a) (inFirst x (columns a)) (ne-eqb x space other)
-    ∙ ap (inFirst x) (column-alone a (parts .1))
+column-alone (x ∷ a) e = piece-alone space columns (λ x s. refl) (λ x. refl) x a (above-lacks space (x ∷ a) e)
 
 pub column-then : (a t : List ℕ) → above space a ≡ true → columns (a ++ space ∷ t) ≡ a ∷ columns t
 unfolding columns
-column-then = piece-then space columns (λ x s. refl)
+column-then a t e = piece-then space columns (λ x s. refl) a t (above-lacks space a e)
 
 -- ---- how long the columns are
 
@@ -157,10 +185,22 @@ pub no-line-left : (s : List ℕ) (i : ℕ) → length s ≤ i → lines (drop i
 unfolding lines
 no-line-left s i h = ap lines (no-more s i h)
 
--- a text of bytes above the line feed, in front of one
-pub line-then : (a t : List ℕ) → above lineFeed a ≡ true → lines (a ++ lineFeed ∷ t) ≡ a ∷ lines t
+-- a text without a line feed, in front of one
+pub line-ends : (a t : List ℕ) → Lacks lineFeed a → lines (a ++ lineFeed ∷ t) ≡ a ∷ lines t
 unfolding lines
-line-then = piece-then lineFeed lines (λ x s. refl)
+line-ends = piece-then lineFeed lines (λ x s. refl)
+
+pub line-then : (a t : List ℕ) → above lineFeed a ≡ true → lines (a ++ lineFeed ∷ t) ≡ a ∷ lines t
+line-then a t e = line-ends a t (above-lacks lineFeed a e)
+
+-- and without one behind it: 'a last piece without one is a line if it has a byte'
+pub no-line : lines [] ≡ []
+unfolding lines
+no-line = refl
+
+pub last-line : (x : ℕ) (a : List ℕ) → Lacks lineFeed (x ∷ a) → lines (x ∷ a) ≡ (x ∷ a) ∷ []
+unfolding lines
+last-line = piece-alone lineFeed lines (λ x s. refl) (λ x. refl)
 
 -- ---- the lines of a text from a place on, when the search for the line feed in `&text[at..]` found the place k
 

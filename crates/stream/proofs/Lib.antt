@@ -2,4 +2,5 @@
 pub mod Keeping
 pub mod Printing
 pub mod Refusing
+pub mod Joining
 pub mod Laws

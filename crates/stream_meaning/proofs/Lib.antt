@@ -1,0 +1,2 @@
+-- The theorems on a recording in pieces.
+pub mod Stated

@@ -1,0 +1,2 @@
+-- What is stated of a recording in pieces.
+pub mod Pieces
