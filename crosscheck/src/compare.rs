@@ -11,7 +11,7 @@ use crate::{
     altitude_lines, antennas_lines, calls, calls_kinds, calls_lines, fast_calls, fast_sift,
     hit_replies, selftest,
 };
-use crate::{elm, elm_kinds, elm_lines, sender_lines};
+use crate::{elm, elm_kinds, elm_lines, recording, sender_lines};
 use crate::{roster, roster_kinds, roster_lines, shift_report, sift, sift_kinds, sift_lines};
 use std::path::Path;
 use std::time::Instant;
@@ -40,6 +40,8 @@ struct Subject {
     round: fn(&mut Random) -> Vec<Made>,
     groups: fn(&[&'static str]) -> Vec<crate::tally::Group>,
     expected: Expected,
+    /// An input above 65,536 bytes is too long for it.
+    limited: bool,
     /// What the program written for speed answers wrongly.
     fast_difference: fn(&[u8], &[u8]) -> Option<String>,
 }
@@ -56,6 +58,7 @@ const SIFT: Subject = Subject {
             sift_kinds::count(tally, lines[k], judged, aims.get(k).and_then(Option::as_ref));
         })
     },
+    limited: true,
     fast_difference: |input, expected| first_difference(input, expected, &fast_sift::output(input)),
 };
 
@@ -73,6 +76,7 @@ const CALLS: Subject = Subject {
             calls_kinds::count(tally, lines[k], judged, aims.get(k).and_then(Option::as_ref));
         })
     },
+    limited: true,
     fast_difference: |input, _| {
         let input = selftest::lines_for_fast_calls(input);
         first_difference(&input, &calls::output(&input), &fast_calls::output(&input))
@@ -90,6 +94,7 @@ const ROSTER: Subject = Subject {
             roster_kinds::count(tally, met, aims.get(k).and_then(Option::as_ref));
         })
     },
+    limited: true,
     fast_difference: |_, _| None,
 };
 
@@ -104,6 +109,7 @@ const ELM: Subject = Subject {
             elm_kinds::count(tally, met, aims.get(k).and_then(Option::as_ref));
         })
     },
+    limited: true,
     fast_difference: |_, _| None,
 };
 
@@ -128,7 +134,31 @@ const TALLY: Subject = Subject {
             tally.add(NAMED, shift_report::name_of(judged));
         })
     },
+    limited: true,
     fast_difference: |_, _| None,
+};
+
+/// The lines are `sift`'s, and there may be any number of them.
+const RECORDING: Subject = Subject {
+    name: "recording",
+    any_line: sift_lines::any_line,
+    once: |_| Vec::new(),
+    round: sift_lines::round,
+    groups: |special| {
+        let mut groups = sift_kinds::groups(special);
+        groups.extend(recording::groups());
+        groups
+    },
+    expected: |tally, input, aims| {
+        let lines = crate::text::lines(input);
+        sift::answers_and_show(input, |k, judged| {
+            sift_kinds::count(tally, lines[k], judged, aims.get(k).and_then(Option::as_ref));
+        })
+    },
+    limited: false,
+    fast_difference: |input, expected| {
+        first_difference(input, expected, &fast_sift::answers(input))
+    },
 };
 
 /// The state of the comparison with one program.
@@ -163,7 +193,7 @@ impl Comparison<'_> {
             }
         };
         // on standard error the program says that an input is too long, and nothing else
-        let too_long = block.bytes.len() > MOST_BYTES;
+        let too_long = self.subject.limited && block.bytes.len() > MOST_BYTES;
         if said.contains("too long") != too_long || said.is_empty() == too_long {
             self.note(&who, format!("said '{said}' of an input of {} bytes", block.bytes.len()));
         }
@@ -232,6 +262,13 @@ impl Comparison<'_> {
 }
 
 fn compare_program(subject: &Subject, program: &Path) -> bool {
+    compare_program_and(subject, program, |_, _| None)
+}
+
+/// What is tried of a program beside whole inputs; the first difference, if there is one.
+type Further = fn(&mut Random, &mut Comparison) -> Option<String>;
+
+fn compare_program_and(subject: &Subject, program: &Path, further: Further) -> bool {
     let start = Instant::now();
     let mut random = Random::new(SEED);
     let mut for_lines = Random::new(SEED + 1);
@@ -242,6 +279,9 @@ fn compare_program(subject: &Subject, program: &Path) -> bool {
     let (lines, inputs, differing) = (0, 0, 0);
     let mut comparison =
         Comparison { subject, program, tally, lines, inputs, differing, first: None };
+    if let Some(difference) = further(&mut random, &mut comparison) {
+        comparison.note(&program.display().to_string(), difference);
+    }
     comparison.compare_all(&mut random, special);
     comparison.report(start.elapsed().as_secs_f64())
 }
@@ -273,6 +313,16 @@ pub fn compare_elm(elm: &Path) -> bool {
 /// every kind was tried.
 pub fn compare_tally(tally: &Path) -> bool {
     let equal = compare_program(&TALLY, tally);
+    say(equal);
+    equal
+}
+
+/// Compares the program that answers a recording of any size, whole and cut; true if
+/// all is right and every kind was tried.
+pub fn compare_recording(recording: &Path) -> bool {
+    let equal = compare_program_and(&RECORDING, recording, |random, comparison| {
+        recording::cut_all(comparison.program, random, &mut comparison.tally)
+    });
     say(equal);
     equal
 }

@@ -105,6 +105,13 @@ pub fn put_lines(
     }
 }
 
+/// Reads standard input to its end and answers by `output` on standard output.
+pub fn serve_all(output: fn(&[u8]) -> Vec<u8>) -> std::io::Result<()> {
+    let mut input = Vec::new();
+    std::io::stdin().lock().read_to_end(&mut input)?;
+    std::io::stdout().lock().write_all(&output(&input))
+}
+
 /// Reads standard input, one byte beyond the most at the most, and answers by
 /// `output` on standard output.
 pub fn serve(output: fn(&[u8]) -> Vec<u8>) -> std::io::Result<()> {

@@ -201,12 +201,16 @@ fn put_answer(out: &mut Vec<u8>, request: &Request) {
 
 /// The whole output for a whole input.
 pub fn output(input: &[u8]) -> Vec<u8> {
+    if input.len() > MOST {
+        return [HEADER, b"too long\n"].concat();
+    }
+    answers(input)
+}
+
+/// The same without the limit: the header, and the answer to each line.
+pub fn answers(input: &[u8]) -> Vec<u8> {
     let mut out = Vec::with_capacity(64 + 2 * input.len());
     out.extend_from_slice(HEADER);
-    if input.len() > MOST {
-        out.extend_from_slice(b"too long\n");
-        return out;
-    }
     put_lines(&mut out, input, b" malformed - - - -", |out, text| {
         let (request, after) = read(text)?;
         put_answer(out, &request);

@@ -4,7 +4,7 @@
 //! alone.
 //!
 //! It exists to disagree: it makes very many input lines for the programs
-//! `sift`, `tally`, `calls`, `roster` and `elm`, works out by its own means what they have to print,
+//! `sift`, `recording`, `tally`, `calls`, `roster` and `elm`, works out by its own means what they have to print,
 //! and compares byte for byte.
 //!
 //! The reference goes by bit lists, division as taught at school, and a
@@ -19,6 +19,7 @@
 //! - `sender`: the sending end of extended length messages, and the game against an interferer;
 //! - `sift`, `calls`, `roster`, `elm`: what each program prints for a whole input;
 //! - `shift_report`: the same of `tally`, from `sift`'s answer to each line;
+//! - `recording`: the same of `recording`, whole and cut into pieces;
 //! - `notices`: which changes of few bits, and of two bursts, leave no remainder;
 //! - `vectors`: published values that the reference itself has to meet.
 //!
@@ -42,6 +43,7 @@
 //!   measurement against them;
 //! - `speed_roster`: what a call on the roll-call table costs;
 //! - `speed_tally`: what `tally` takes beside `sift`;
+//! - `speed_recording`: how many lines a second `recording` answers;
 //! - `selftest`: the checks of this program on itself.
 //!
 //! `c/`, a package of its own, links the C library and compares its calls with the
@@ -71,6 +73,7 @@ pub mod notices;
 pub mod picture;
 pub mod poly;
 pub mod random;
+pub mod recording;
 pub mod roster;
 pub mod roster_kinds;
 pub mod roster_lines;
@@ -90,6 +93,7 @@ pub mod sift_lines;
 pub mod simulate;
 pub mod solve;
 pub mod speed;
+pub mod speed_recording;
 pub mod speed_roster;
 pub mod speed_tally;
 pub mod svg;

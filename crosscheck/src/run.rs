@@ -109,6 +109,54 @@ pub fn run_and_hear(program: &Path, input: &[u8], feed: Feed) -> Result<Written,
     })
 }
 
+/// What a program writes for an input that comes through a pipe in pieces that end
+/// at the given places, in rising order. Each piece is written when the program waits
+/// for one, so that a read ends where the piece does.
+pub fn run_in_cuts(program: &Path, input: &[u8], cuts: &[usize]) -> Result<Written, String> {
+    let mut child = Command::new(program)
+        .stdin(Stdio::piped())
+        .stdout(Stdio::piped())
+        .stderr(Stdio::piped())
+        .spawn()
+        .map_err(|error| format!("{}: {error}", program.display()))?;
+    let mut pipe = child.stdin.take().expect("a pipe");
+    let stdout = read_all(child.stdout.take().expect("a pipe"));
+    let stderr = read_all(child.stderr.take().expect("a pipe"));
+    let mut start = 0;
+    for end in cuts.iter().copied().chain([input.len()]) {
+        wait_until_it_sleeps(&child);
+        if pipe.write_all(&input[start..end]).is_err() {
+            break;
+        }
+        start = end;
+    }
+    drop(pipe);
+    let output = collect(&mut child, &stdout)?;
+    let said = String::from_utf8_lossy(&collect(&mut child, &stderr)?).into_owned();
+    let status = child.wait().map_err(|error| error.to_string())?;
+    if status.success() {
+        Ok(Written { output, said })
+    } else {
+        Err(format!("{} ended with {status}", program.display()))
+    }
+}
+
+/// A program that sleeps has read all there was. Where the system does not tell, or
+/// after a tenth of a second, it is as well: then two pieces may be read as one.
+fn wait_until_it_sleeps(child: &Child) {
+    let file = format!("/proc/{}/stat", child.id());
+    for _ in 0..2000 {
+        match std::fs::read_to_string(&file) {
+            // the state follows the program's name, which stands in parentheses
+            Ok(text) if text.rsplit(") ").next().is_some_and(|rest| rest.starts_with('S')) => {
+                return
+            }
+            Ok(_) => thread::sleep(Duration::from_micros(50)),
+            Err(_) => return,
+        }
+    }
+}
+
 /// Writes the input. A program may stop reading once the input is too long, so
 /// a broken pipe is no error here: its output tells.
 fn write_all(mut pipe: ChildStdin, input: &[u8], feed: Feed) {
@@ -210,6 +258,14 @@ mod tests {
         let written = Written { output: b"output\n".to_vec(), said: "said\n".to_string() };
         assert_eq!(run_and_hear(shell, commands, Feed::Pipe), Ok(written));
         assert!(run(shell, commands, Feed::Pipe).is_err());
+    }
+
+    /// `dd` says how many reads came back short.
+    #[test]
+    fn a_read_ends_where_a_piece_does() {
+        let written = run_in_cuts(Path::new("dd"), b"some bytes", &[1, 2, 7]).expect("it runs");
+        assert_eq!(written.output, b"some bytes");
+        assert!(written.said.starts_with("0+4 "), "{}", written.said);
     }
 
     #[test]

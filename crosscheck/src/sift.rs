@@ -58,12 +58,15 @@ pub fn print(number: usize, judged: &Judged) -> String {
 
 /// The whole output for a whole input; `met` is shown each line's outcome.
 pub fn output_and_show(input: &[u8], met: impl FnMut(usize, &Judged)) -> Vec<u8> {
-    let after = if input.len() > MOST_BYTES {
-        TOO_LONG.to_string()
-    } else {
-        numbered(input, judge, print, met)
-    };
-    (HEADER.to_string() + &after).into_bytes()
+    if input.len() > MOST_BYTES {
+        return [HEADER, TOO_LONG].concat().into_bytes();
+    }
+    answers_and_show(input, met)
+}
+
+/// The same without the limit: the header, and the answer to each line.
+pub fn answers_and_show(input: &[u8], met: impl FnMut(usize, &Judged)) -> Vec<u8> {
+    (HEADER.to_string() + &numbered(input, judge, print, met)).into_bytes()
 }
 
 pub fn output(input: &[u8]) -> Vec<u8> {

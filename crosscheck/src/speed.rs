@@ -135,7 +135,7 @@ fn measure(race: &Race) -> Result<String, String> {
 }
 
 /// A program of this package: it stands beside the running one.
-fn beside(name: &str) -> Result<PathBuf, String> {
+pub(crate) fn beside(name: &str) -> Result<PathBuf, String> {
     let own = std::env::current_exe().map_err(|error| error.to_string())?;
     let path = own.with_file_name(name);
     if path.exists() {

@@ -28,7 +28,9 @@ fn answer_all(state: State, out: &mut [u8; 255616]) {
         left -= 1;
     }
     if turn.more {
-        say(b"recording: the input came in more than 18,446,744,073,709,551,615 pieces: what follows is not answered\n");
+        say(
+            b"recording: the input came in more than 18,446,744,073,709,551,615 pieces: what follows is not answered\n",
+        );
     }
 }
 
@@ -73,7 +75,9 @@ fn answer_end(state: State, out: &mut [u8; 255616]) {
 // Writes what a call left, and says whether it was not refused and all of it was written.
 fn answered(out: &[u8], taken: usize, refused: bool) -> bool {
     if refused {
-        say(b"recording: 9,223,372,036,854,775,808 lines have ended: what follows is not answered\n");
+        say(
+            b"recording: 9,223,372,036,854,775,808 lines have ended: what follows is not answered\n",
+        );
         return false;
     }
     write(out, taken)

@@ -3,7 +3,7 @@
 use mathlib.Core.Path.{_≡_, refl, sym, ap, ap₂, _∙_, subst}
 use mathlib.Core.Bool.{Bool, true, false, _||_}
 use mathlib.Core.List.{List, [], _∷_, _++_, append-assoc, append-nil}
-use Prim.Native.Nat.{ℕ, _+_, _^_, _≤_, _<_}
+use Prim.Native.Nat.{ℕ, _+_, _^_, _<_}
 use native.Mathlib.Omega.{arith}
 use lib.ListN.{length, take, length-append}
 use lib.Seq.{take-all, take-take, take-append-le, length-take-le}
@@ -14,7 +14,7 @@ use Rattle.reading.specs.Lines.{lines}
 use Rattle.reading.proofs.Laws.{Lacks, lacks-none, lacks-more, line-ends, no-line, last-line}
 use Rattle.report.specs.Sift.{header, outputLine, outputLines}
 use Rattle.report.proofs.Laws.{no-output, next-output-line, long-lines-alike, output-read}
-use Rattle.stream.specs.Stream.{Held, heldAfterByte, printedAtByte, heldAfter, printed, printedAtEnd, isRefused, feedText, feedHeld, finishText}
+use Rattle.stream.specs.Stream.{Held, heldAfterByte, printedAtByte, heldAfter, printed, printedAtEnd, isRefused, feedHeld}
 use Rattle.stream.proofs.Laws.{held-ended, held-kept, printed-ended, printed-kept, last-line as end-line, no-last-line, printed-none, printed-first, held-none, held-first, printed-joined, held-joined, ended-le, fed-text, fed-held, fed-end, is-not-refused}
 use Rattle.stream_meaning.specs.Pieces.{joined, EachShort, fed, written, someRefused, AnswersEveryLine, AsSift, CutsChangeNothing, NoneRefused}
 

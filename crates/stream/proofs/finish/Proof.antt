@@ -2,9 +2,9 @@
 use mathlib.Core.Path.{_≡_, refl, sym, ap, _∙_}
 use mathlib.Core.Bool.{true, false}
 use mathlib.Core.List.{List, [], _++_}
-use Prim.Native.Nat.{ℕ, _≤_, _<_, _^_}
+use Prim.Native.Nat.{ℕ, _≤_}
 use native.Mathlib.Omega.{arith}
-use lib.ListN.{length, take, drop}
+use lib.ListN.{length, drop}
 use Rattle.text.specs.Output.{append}
 use Rattle.text.proofs.Laws.{at-start, taken-le, taken-size}
 use Rattle.stream.specs.Stream.{Held, held, heldBy, printedAtEnd, isRefused, finishText}

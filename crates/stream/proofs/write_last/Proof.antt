@@ -1,9 +1,7 @@
 -- `stream::write_last` meets its contract.
 use mathlib.Core.Path.{_≡_, sym, ap, _∙_}
-use mathlib.Core.List.{List}
-use Prim.Native.Nat.{ℕ, _≤_, _<_}
 use native.Mathlib.Omega.{arith}
-use lib.ListN.{length, take}
+use lib.ListN.{length}
 use lib.Seq.{length-take-le}
 use Rattle.text.specs.Output.{append}
 use Rattle.stream.specs.Stream.{Held, held, printedAtEnd}

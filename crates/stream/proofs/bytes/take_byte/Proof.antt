@@ -1,10 +1,10 @@
 -- `stream::bytes::take_byte` meets its contract.
 use mathlib.Core.Path.{_≡_, sym, ap, _∙_}
-use mathlib.Core.List.{List, []}
-use Prim.Native.Nat.{ℕ, _+_, _*_, _≤_}
+use mathlib.Core.List.{List}
+use Prim.Native.Nat.{ℕ}
 use native.Mathlib.Omega.{arith}
-use lib.ListN.{length, take}
-use Rattle.text.specs.Output.{Place, append}
+use lib.ListN.{length}
+use Rattle.text.specs.Output.{append}
 use Rattle.stream.specs.Stream.{Held, held, printedAtByte}
 use borrow.Author.Needs.{needs}
 use Rattle.stream.proofs.Printing.{held-ended, held-kept, printed-ended, printed-kept, nothing-put}

@@ -4,7 +4,7 @@ use mathlib.Core.List.{List, _++_}
 use Prim.Native.Nat.{ℕ, _+_, _-_, _*_, _≤_, _<_}
 use native.Mathlib.Omega.{arith}
 use lib.ListN.{length, drop, getD, length-append}
-use Rattle.text.specs.Output.{Place, append}
+use Rattle.text.specs.Output.{append}
 use Rattle.text.proofs.Laws.{part-done, all-done}
 use Rattle.stream.specs.Stream.{Held, held, heldAfterByte, printedAtByte, heldAfter, printed}
 use borrow.Author.Needs.{needs}

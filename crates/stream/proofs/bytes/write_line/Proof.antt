@@ -1,15 +1,15 @@
 -- `stream::bytes::write_line` meets its contract.
 use mathlib.Core.Path.{_≡_, sym, ap, _∙_}
 use mathlib.Core.List.{List}
-use Prim.Native.Nat.{ℕ, _≤_}
+use Prim.Native.Nat.{ℕ}
 use native.Mathlib.Omega.{arith}
-use lib.ListN.{length, take}
+use lib.ListN.{take}
 use lib.Seq.{length-take-le}
 use Rattle.reading.specs.Lines.{columns}
 use Rattle.text.specs.Digits.{decimalText}
 use Rattle.text.specs.Output.{Place, append}
 use Rattle.text.proofs.Laws.{and-then}
-use Rattle.report.specs.Sift.{answerText, outputLine}
+use Rattle.report.specs.Sift.{answerText}
 use Rattle.report.proofs.Laws.{line-text}
 use borrow.Author.Needs.{needs}
 use Rattle.stream.proofs.Printing.{line-length}
