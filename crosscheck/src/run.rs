@@ -98,15 +98,25 @@ pub fn run_and_hear(program: &Path, input: &[u8], feed: Feed) -> Result<Written,
         }
         let stdout = read_all(child.stdout.take().expect("a pipe"));
         let stderr = read_all(child.stderr.take().expect("a pipe"));
-        let output = collect(&mut child, &stdout)?;
-        let said = String::from_utf8_lossy(&collect(&mut child, &stderr)?).into_owned();
-        let status = child.wait().map_err(|error| error.to_string())?;
-        if status.success() {
-            Ok(Written { output, said })
-        } else {
-            Err(format!("{} ended with {status}", program.display()))
-        }
+        ended(&mut child, program, &stdout, &stderr)
     })
+}
+
+/// What a program has written when it has ended, unless it failed.
+fn ended(
+    child: &mut Child,
+    program: &Path,
+    stdout: &Brought,
+    stderr: &Brought,
+) -> Result<Written, String> {
+    let output = collect(child, stdout)?;
+    let said = String::from_utf8_lossy(&collect(child, stderr)?).into_owned();
+    let status = child.wait().map_err(|error| error.to_string())?;
+    if status.success() {
+        Ok(Written { output, said })
+    } else {
+        Err(format!("{} ended with {status}", program.display()))
+    }
 }
 
 /// What a program writes for an input that comes through a pipe in pieces that end
@@ -131,14 +141,7 @@ pub fn run_in_cuts(program: &Path, input: &[u8], cuts: &[usize]) -> Result<Writt
         start = end;
     }
     drop(pipe);
-    let output = collect(&mut child, &stdout)?;
-    let said = String::from_utf8_lossy(&collect(&mut child, &stderr)?).into_owned();
-    let status = child.wait().map_err(|error| error.to_string())?;
-    if status.success() {
-        Ok(Written { output, said })
-    } else {
-        Err(format!("{} ended with {status}", program.display()))
-    }
+    ended(&mut child, program, &stdout, &stderr)
 }
 
 /// A program that sleeps has read all there was. Where the system does not tell, or
