@@ -2,6 +2,8 @@
 //
 // Both calls check the message first, with no byte touched. What they know of the code are the public functions of
 // altitude_code and their contracts.
+#![tactic(auto)]
+
 ghost use Rattle.std.specs.Prelude.{◌<◌, ◌≤◌, ◌^◌, ◌≡◌, cond, length};
 ghost use Rattle.outcome.specs.Outcomes.{admission};
 ghost use Rattle.altitude.specs.Fields.{has_altitude, altitude_code, with_code};

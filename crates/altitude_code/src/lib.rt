@@ -3,6 +3,8 @@
 //
 // Inside, altitudes are counted in feet above −1200, the lowest of all, and so without a sign; `feet` and `above_lowest` are
 // the two ways between the two.
+#![tactic(auto)]
+
 ghost use Rattle.std.specs.Prelude.{◌<◌, ◌≤◌, ◌≡◌, pos, ◌-ℤ◌};
 ghost use Rattle.altitude_code.specs.Altitudes.{decoded_of, encoded_of, code_by_25, code_by_100};
 ghost use Rattle.altitude_code.specs.Counting.{above_lowest, encoded_from, is_at};

@@ -2,6 +2,8 @@
 //
 // Both calls go by one definition, `antenna_of`: the part is a map of the companion's answer. What they know of the transponder are
 // its public functions and their contracts.
+#![tactic(auto)]
+
 ghost use Rattle.std.specs.Prelude.{◌≡◌};
 ghost use Rattle.transponder.specs.Receptions.{reception_outcome};
 ghost use Rattle.antennas.specs.Antennas.{field_of, is_taken, chosen, antenna_of, part_of};

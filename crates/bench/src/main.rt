@@ -20,6 +20,8 @@
 //     rows        refused calls that meet the rows of document 01's table whose numbers follow: the lowest is answered,
 //                 and the message stays. Of a message of another length than 7 or 14 bytes, one whose first bit is 1
 //                 counts as meeting row 5.
+#![tactic(auto)]
+
 ghost use Rattle.std.specs.Prelude.{◌+◌, ◌≤◌, length};
 
 mod calls;

@@ -14,6 +14,8 @@
 //
 // A program here has no exit status: what went wrong is said on standard error, and nothing else is. bin/calls ends with 1
 // where something was said.
+#![tactic(auto)]
+
 ghost use Rattle.std.specs.Prelude.{◌+◌, ◌≤◌, ◌≡◌, length};
 
 mod altitudes;

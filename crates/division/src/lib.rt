@@ -4,6 +4,8 @@
 // Every public function takes any input and answers a Word, the value or the number of the refusal (the byte table, which nothing
 // can refuse, is a value alone). Its contract says which, by a definition of specs/Answers.antt. Private workers take a table as a
 // lent array, so that a call copies it at most once.
+#![tactic(auto)]
+
 ghost use Rattle.std.specs.Prelude.{◌<◌, ◌≡◌};
 
 mod byte_table;

@@ -1,5 +1,7 @@
 // The edges of sift's input: each is handed to report::sift, and the length, the first and the last line of the output
 // are printed.
+#![tactic(auto)]
+
 ghost use Rattle.std.specs.Prelude.{◌≤◌, ◌≡◌, length};
 
 fn main() {

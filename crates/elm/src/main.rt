@@ -13,6 +13,8 @@
 //
 // A program here has no exit status: what went wrong is said on standard error, and nothing else is. bin/elm ends with 1
 // where something was said.
+#![tactic(auto)]
+
 ghost use Rattle.std.specs.Prelude.{◌+◌, ◌≤◌, ◌≡◌, length};
 
 mod answers;

@@ -2,6 +2,8 @@
 //
 // Both check the call first, with no byte touched, and then hand the last three bytes alone to the writer of the parity
 // field. What they know of division are its public functions and their contracts.
+#![tactic(auto)]
+
 ghost use Rattle.std.specs.Prelude.{◌<◌, ◌^◌, ◌≡◌, true, length};
 ghost use Rattle.std.specs.Int.Bits.{bit_xor};
 ghost use Rattle.outcome.specs.Outcomes.{admission};

@@ -1,6 +1,8 @@
 // What a message is before any division: its length, its first bit and its format number; and what a word of 24 bits is.
 //
 // Every function takes any input; its contract names a definition of specs/Message.antt.
+#![tactic(auto)]
+
 ghost use Rattle.std.specs.Prelude.{◌≡◌, get_or};
 ghost use Rattle.message.specs.Message.{is_message_length, is_field_length, is_word, first_bit_agrees, format_number};
 

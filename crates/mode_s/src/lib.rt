@@ -3,6 +3,8 @@
 //
 // Each call is the one of the library below it, and its answer is packed: so each promises that call's definition, packed, and
 // the same buffer. include/mode_s.h says what the caller has to promise.
+#![tactic(auto)]
+
 ghost use Rattle.std.specs.Prelude.{◌≡◌, length};
 ghost use Rattle.encoder.specs.Seals.{seal_outcome, reply_after, interrogation_after};
 ghost use Rattle.encoder.specs.Seals.{said as saidSeal};

@@ -2,6 +2,8 @@
 //
 // Every public function takes any input. Its contract gives the result by a definition of specs/, and a lent buffer by
 // what is appended to it (`append` of the crate `text`).
+#![tactic(auto)]
+
 mod bytes;
 mod digits;
 mod lines;

@@ -3,6 +3,8 @@
 //
 // A program here has no exit status: what went wrong is said on standard error, and nothing else is. bin/recording ends with 1
 // where something was said.
+#![tactic(auto)]
+
 use stream::State;
 
 fn main() {

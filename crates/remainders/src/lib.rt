@@ -2,6 +2,8 @@
 //
 // From the byte table ten more are made, one for each byte of a field: the entry of a byte with j bytes after it is R of
 // x^(8j) times the byte. R of a field is then the sum of eleven entries, none of which waits for another.
+#![tactic(auto)]
+
 mod replies;
 mod tables;
 

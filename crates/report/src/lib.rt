@@ -12,6 +12,8 @@
 // 70 (src/answer.rt), which is less than 24 * 7. So k bytes in front of a line feed give at most 24 * (k + 1) bytes. The
 // last line may lack its line feed, so 65,536 bytes give at most 24 * 65,537. With the header's 37 that is 1,572,925, and
 // the buffer has that rounded up to a multiple of 64: 1,572,928.
+#![tactic(auto)]
+
 ghost use Rattle.std.specs.Prelude.{◌≤◌, ◌≡◌, ◌++◌, length, take, drop};
 ghost use Rattle.text.specs.Output.{append};
 ghost use Rattle.report.specs.Sift.{sift_output};

@@ -2,6 +2,8 @@
 //
 // `is_well_formed` takes any bytes; its contract gives the result by a definition of specs/Requests.antt.
 // `&` makes every test, where `&&` would end at the first that fails: one result is to be proved, not one for each end.
+#![tactic(auto)]
+
 ghost use Rattle.std.specs.Prelude.{◌≡◌};
 ghost use Rattle.request.specs.Requests.{well_formed, is_bytes_column, is_word_column, is_limit_column};
 

@@ -3,6 +3,8 @@
 //
 // A call reads the table first and decides what to change (locate, then rollcall_plans, by value), and then changes it
 // (apply). So few functions touch the records, and each does one thing. Their proofs go by the rules of the crate walks.
+#![tactic(auto)]
+
 ghost use Rattle.std.specs.Prelude.{◌≡◌};
 ghost use Rattle.rollcall_plans.specs.Calls.{said, clear_outcome, clear_count, clear_records, find_outcome, remove_outcome, remove_count, remove_records, remove_places, add_outcome, add_count, add_records, add_places};
 

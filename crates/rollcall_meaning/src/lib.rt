@@ -1,1 +1,2 @@
 // What the calls on the roll-call table mean: statements in specs/, and their proofs.
+#![tactic(auto)]

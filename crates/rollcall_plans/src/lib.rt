@@ -1,4 +1,6 @@
 // What a call on a roll-call table answers and changes, decided by value from where the address stands.
+#![tactic(auto)]
+
 use rollcall_table::Record;
 
 mod plans;

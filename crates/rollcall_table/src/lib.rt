@@ -1,6 +1,8 @@
 // What a roll-call table is: its records, and what is decided about single records and about the numbers that were counted along a table.
 //
 // The functions that touch a table are those of the crate rollcall. What decides is here and in rollcall_plans, by value.
+#![tactic(auto)]
+
 mod records;
 mod standing;
 

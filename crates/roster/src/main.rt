@@ -14,6 +14,8 @@
 //
 // The records are in one array of answer_all, and four functions beside it take them (table.rt); the rest takes a line,
 // a record or what a call answered by value.
+#![tactic(auto)]
+
 ghost use Rattle.std.specs.Prelude.{◌≤◌, ◌≡◌, length};
 
 mod answers;

@@ -2,6 +2,8 @@
 //
 // The call is checked first; then it is clean, or the windows are asked for their density, and then for their fits. What it
 // knows of division and of a window's bits are the public functions of those crates and their contracts.
+#![tactic(auto)]
+
 ghost use Rattle.std.specs.Prelude.{◌<◌, ◌≤◌, ◌^◌, ◌-◌, ◌*◌, ◌≡◌, true, length};
 ghost use Rattle.outcome.specs.Outcomes.{done, admission};
 ghost use Rattle.message.specs.Message.{is_message_length};

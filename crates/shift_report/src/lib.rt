@@ -3,6 +3,8 @@
 //
 // Each function appends to the output buffer, as those of `report` do. The second promise of each bounds what it appends:
 // a name has at most 9 bytes, a number 10 digits, so that the eight lines have at most 47 + 8 * 12 bytes.
+#![tactic(auto)]
+
 ghost use Rattle.std.specs.Prelude.{◌≤◌, ◌≡◌, ◌++◌, length, take, drop};
 ghost use Rattle.text.specs.Output.{append};
 ghost use Rattle.shift_report.specs.Tally.{tally_output};

@@ -9,6 +9,8 @@
 // for each byte of the line (report/src/lib.rt), and its number, which is below 10^19, at most 19. So a piece of 4,096 bytes
 // gives at most 62 bytes for each of its bytes, which may be a line feed or a byte of a line, and 24 for each of the 68 bytes
 // kept before: 255,584. The buffer has that rounded up to a multiple of 64: 255,616.
+#![tactic(auto)]
+
 ghost use Rattle.std.specs.Prelude.{◌≤◌, ◌<◌, ◌≡◌, false, [], ◌++◌, length, take, drop};
 ghost use Rattle.text.specs.Output.{append};
 ghost use Rattle.report.specs.Sift.{header};

@@ -3,6 +3,8 @@
 //
 // A program here has no exit status: what went wrong is said on standard error, and nothing else is. bin/tally ends with 1
 // where something was said.
+#![tactic(auto)]
+
 fn main() {
     let mut input = [0u8; 65537];
     let size = io::read_full(0, &mut input);

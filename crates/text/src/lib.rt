@@ -4,6 +4,8 @@
 // Every public function takes any input. Its contract gives the result and the lent buffer by a definition of specs/.
 // The function takes the number of bytes of the buffer that are taken already and answers the number that are taken
 // then; what a full buffer has no place for is left out.
+#![tactic(auto)]
+
 mod output;
 mod signed;
 

@@ -1,6 +1,8 @@
 // The transponder: the address that an interrogation is read as, and whether it is for this transponder.
 //
 // What it knows of division are its public functions and their contracts.
+#![tactic(auto)]
+
 ghost use Rattle.std.specs.Prelude.{◌≡◌, true, length};
 ghost use Rattle.division.specs.Division.{address_read};
 ghost use Rattle.message.specs.Message.{number, is_message_length, is_word};

@@ -4,6 +4,8 @@
 // The receiver is a small struct by value: whether a message is opened, its last number, and which numbers are held. The bytes
 // of its 16 places are lent beside it. What a segment does is decided by value (`effect_of`); one function touches the bytes.
 // What is known of the transponder is its public function and its contract.
+#![tactic(auto)]
+
 mod control;
 mod holding;
 

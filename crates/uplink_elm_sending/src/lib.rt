@@ -3,6 +3,8 @@
 //
 // Opening, round and exchange are a call each. Whether a call is refused, and of how many transmissions it is, is decided by value
 // from the lengths; one function writes a transmission. What is known of the encoder is its public function and its contract.
+#![tactic(auto)]
+
 mod choosing;
 
 ghost use Rattle.std.specs.Prelude.{◌+◌, ◌*◌, ◌/◌, ◌<◌, ◌≤◌, ◌^◌, ◌≡◌, true, length};

@@ -5,6 +5,8 @@
 // then, and its contract names the text it appends. `write_verdict` names it by definitions of specs/Columns.antt, and
 // its second promise bounds the text: the longest has ` corrected `, two numbers of ten digits with a space between them,
 // and ` several`, which are 11 + 21 + 8 bytes.
+#![tactic(auto)]
+
 ghost use Rattle.std.specs.Prelude.{◌≤◌, ◌≡◌, [], ◌∷◌, ◌++◌, length};
 ghost use Rattle.text.specs.Ascii.{ascii, space};
 ghost use Rattle.text.specs.Digits.{decimal_text};

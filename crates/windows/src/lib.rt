@@ -4,6 +4,8 @@
 //
 // Such a window lies in the first four bytes of the part. A byte that is not there counts as 0 and takes nothing, so
 // every function takes any part; its contract names a definition of specs/Windows.antt.
+#![tactic(auto)]
+
 mod inverting;
 mod marks;
 
