@@ -1,3 +1,4 @@
+-- `reading::digits::all_decimal` meets its contract.
 use mathlib.Core.Path.{refl, ◌∙◌}
 use native.Mathlib.Omega.{arith}
 use Rattle.reading.specs.Digits.{is_decimal_digit}

@@ -1,3 +1,4 @@
+-- `reading::digits::all_hex` meets its contract.
 use mathlib.Core.Path.{refl, ◌∙◌}
 use native.Mathlib.Omega.{arith}
 use Rattle.reading.specs.Digits.{is_hex_digit}

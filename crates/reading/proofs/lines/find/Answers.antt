@@ -1,3 +1,4 @@
+-- `reading::lines::find` meets its contract.
 use native.Mathlib.Omega.{arith}
 use Rattle.reading.proofs.Searching.{found, not_here, none_left}
 use Rattle.reading.proofs.lines.find.Goals as goal
