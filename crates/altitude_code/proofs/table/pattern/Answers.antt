@@ -3,19 +3,8 @@ use Rattle.altitude_code.specs.Gray.{gray}
 use Rattle.altitude_code.specs.Codes.{binary, digit, c_pattern, in_order}
 use Rattle.altitude_code.specs.Altitudes.{placed, code_by_100}
 use Rattle.outcome.proofs.Laws.{tabulate, tabulated}
-use borrow.Author.Rules.{rules}
-use Rattle.altitude_code.proofs.table.pattern.Statement.{statement}
-use Rattle.altitude_code.proofs.table.pattern.Tie as tie
+use Rattle.altitude_code.proofs.table.pattern.Goals as goal
 
-mul-result : tie.Need-overflow-mul-result
-mul-result c = search rules
-
-array-read-result : tie.Need-array-read-result
-array-read-result c = search rules
-
-returns : tie.Need-returns
+pub returns : goal.returns
 unfolding tabulate code_by_100 placed gray c_pattern in_order binary digit
 returns c = tabulated code_by_100 1280 _ c.requires
-
-pub pattern-spec : {M : Type 1} → statement M
-pattern-spec = tie.close (tie.spec mul-result array-read-result returns)
