@@ -16,7 +16,7 @@ use division::Word;
 use outcome::Admission;
 
 // Sealed, or the number of the refusal.
-#[derive(Drop)]
+#[derive(Clone, Copy)]
 pub enum Seal {
     Sealed,
     Refused(u32),
