@@ -10,7 +10,7 @@ const MOST: usize = 1024;
 
 // What of the input is passed, the number of the line, the bytes of the output buffer that are taken, whether every write
 // so far was done, the lengths of the table and its count, and the line itself.
-#[derive(Drop)]
+#[derive(Clone, Copy)]
 pub(crate) struct Turn {
     pub(crate) at: usize,
     pub(crate) number: u32,
@@ -117,7 +117,7 @@ pub(crate) fn with_taken(t: Turn, taken: usize) -> Turn
 
 // ---- the output buffer
 
-#[derive(Drop)]
+#[derive(Clone, Copy)]
 struct Room {
     taken: usize,
     written: bool,
