@@ -5,7 +5,7 @@ use crate::numbers::{Number, feet_of, grade_of, is_address, number_of};
 use reading::{after, find};
 use rollcall::{Grade, Reading, Record, Sighting};
 
-#[derive(Drop)]
+#[derive(Clone, Copy)]
 pub(crate) enum Order {
     Malformed,
     Table,
@@ -22,7 +22,7 @@ pub(crate) enum Order {
 // The index is that of `place` and `record`, and the records that `table` asks for; the value is what `place` or `count`
 // sets, and the places that `table` asks for; the record holds what `record` sets, and the address, altitude, time and
 // grade of a call. What a line lacks is zero.
-#[derive(Drop)]
+#[derive(Clone, Copy)]
 pub(crate) struct Line {
     pub(crate) order: Order,
     pub(crate) index: u64,
