@@ -22,39 +22,46 @@
 //                 counts as meeting row 5.
 #![tactic(auto)]
 
-ghost use Rattle.std.specs.Prelude.{◌+◌, ◌≤◌, length};
+ghost use Rattle.std.specs.Prelude.{◌+◌, ◌≤◌, length, IfOk};
 
 mod calls;
 mod print;
 
 use reading::{after, find};
+use std::io;
+use std::io::{Read, Write};
 
-fn main() {
-    let mut input = io::large_buffer();
-    let n = io::read_full(0, &mut input);
-    show_all(&input[..n]);
+fn main(rt: HostRuntime) -> io::Result<()> {
+    run(&mut rt.stdin(), &mut rt.stdout())
 }
 
-fn show_all(vectors: &[u8]) {
+fn run<R: Read, W: Write>(input: &mut R, to: &mut W) -> io::Result<()> {
+    let mut vectors = [0u8; 65536];
+    let read = intake::read_full(input, &mut vectors);
+    show_all(to, &vectors[..read.size])
+}
+
+fn show_all<W: Write>(to: &mut W, vectors: &[u8]) -> io::Result<()> {
     let mut at: usize = 0;
     while at < vectors.len() {
-        at += show_first(&vectors[at..]);
+        at += show_first(to, &vectors[at..])?;
     }
+    Ok(())
 }
 
 // Shows the first line; the number of its bytes, with the line feed.
-fn show_first(vectors: &[u8]) -> usize
-    ensures { (1 ≤ result) × (result ≤ length vectors.now + 1) }
+fn show_first<W: Write>(to: &mut W, vectors: &[u8]) -> io::Result<usize>
+    ensures { IfOk result (λ r. (1 ≤ r) × (r ≤ length vectors.now + 1)) }
 {
     let end = find(vectors, b'\n');
-    show(&vectors[0..end]);
-    end + 1
+    show(to, &vectors[0..end])?;
+    Ok(end + 1)
 }
 
-fn show(vector: &[u8]) {
-    io::write_all(1, vector);
+fn show<W: Write>(to: &mut W, vector: &[u8]) -> io::Result<()> {
+    to.write_all(vector)?;
     let call = after(vector, find(vector, b' '));
     let end = find(call, b' ');
-    calls::answer(&call[0..end], after(call, end));
-    io::write_all(1, b"\n");
+    calls::answer(to, &call[0..end], after(call, end))?;
+    to.write_all(b"\n")
 }

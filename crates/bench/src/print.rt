@@ -2,81 +2,85 @@
 use altitude::Altitude;
 use division::Word;
 use encoder::Seal;
+use std::io;
+use std::io::Write;
 use transponder::Reception;
 
-pub(crate) fn column(s: &[u8]) {
-    io::write_all(1, b" ");
-    io::write_all(1, s);
+pub(crate) fn column<W: Write>(to: &mut W, s: &[u8]) -> io::Result<()> {
+    to.write_all(b" ")?;
+    to.write_all(s)
 }
 
-pub(crate) fn bytes(m: &[u8]) {
+pub(crate) fn bytes<W: Write>(to: &mut W, m: &[u8]) -> io::Result<()> {
     let mut digits = [0u8; 64];
     let n = text::put_hex(&mut digits, 0, m);
     if n == 0 {
-        column(b"-");
+        column(to, b"-")?;
     } else {
         if n <= 64 {
-            column(&digits[0..n]);
+            column(to, &digits[0..n])?;
         }
     }
+    Ok(())
 }
 
-pub(crate) fn answer(a: Word) {
+pub(crate) fn answer<W: Write>(to: &mut W, a: Word) -> io::Result<()> {
     match a {
-        Word::Value(w) => word(w),
-        Word::Refused(n) => refusal(n),
+        Word::Value(w) => word(to, w),
+        Word::Refused(n) => refusal(to, n),
     }
 }
 
-pub(crate) fn seal(a: Seal) {
+pub(crate) fn seal<W: Write>(to: &mut W, a: Seal) -> io::Result<()> {
     match a {
-        Seal::Sealed => column(b"sealed"),
-        Seal::Refused(n) => refusal(n),
+        Seal::Sealed => column(to, b"sealed"),
+        Seal::Refused(n) => refusal(to, n),
     }
 }
 
-pub(crate) fn reception(a: Reception) {
+pub(crate) fn reception<W: Write>(to: &mut W, a: Reception) -> io::Result<()> {
     match a {
-        Reception::Own => column(b"own"),
-        Reception::AllCall => column(b"allcall"),
-        Reception::Broadcast => column(b"broadcast"),
-        Reception::NotOurs(address) => not_ours(address),
-        Reception::Refused(n) => refusal(n),
+        Reception::Own => column(to, b"own"),
+        Reception::AllCall => column(to, b"allcall"),
+        Reception::Broadcast => column(to, b"broadcast"),
+        Reception::NotOurs(address) => not_ours(to, address),
+        Reception::Refused(n) => refusal(to, n),
     }
 }
 
-pub(crate) fn altitude(a: Altitude) {
+pub(crate) fn altitude<W: Write>(to: &mut W, a: Altitude) -> io::Result<()> {
     match a {
-        Altitude::Feet(n) => feet(n),
-        Altitude::NoAltitude => column(b"none"),
-        Altitude::Metric => column(b"metric"),
-        Altitude::Illegal => column(b"illegal"),
-        Altitude::NoSuchField => column(b"nofield"),
-        Altitude::Refused(n) => refusal(n),
+        Altitude::Feet(n) => feet(to, n),
+        Altitude::NoAltitude => column(to, b"none"),
+        Altitude::Metric => column(to, b"metric"),
+        Altitude::Illegal => column(to, b"illegal"),
+        Altitude::NoSuchField => column(to, b"nofield"),
+        Altitude::Refused(n) => refusal(to, n),
     }
 }
 
-fn feet(n: i32) {
+fn feet<W: Write>(to: &mut W, n: i32) -> io::Result<()> {
     let mut digits = [0u8; 11];
     let end = text::put_signed(&mut digits, 0, n);
-    column(b"feet");
+    column(to, b"feet")?;
     if end <= 11 {
-        column(&digits[0..end]);
+        column(to, &digits[0..end])?;
     }
+    Ok(())
 }
 
-fn not_ours(address: u32) {
-    column(b"notours");
-    word(address);
+fn not_ours<W: Write>(to: &mut W, address: u32) -> io::Result<()> {
+    column(to, b"notours")?;
+    word(to, address)
 }
 
-fn word(w: u32) {
+fn word<W: Write>(to: &mut W, w: u32) -> io::Result<()> {
     let mut digits = [0u8; 6];
     text::put_word(&mut digits, 0, w);
-    column(&digits);
+    column(to, &digits)
 }
 
-fn refusal(n: u32) {
-    column(b"refused-");
-    io::print_decimal(1, n as u64);
+fn refusal<W: Write>(to: &mut W, n: u32) -> io::Result<()> {
+    column(to, b"refused-")?;
+    write!(to, "{n}")
 }

@@ -12,8 +12,8 @@
 // altitude; and for a seal, the sensor and `write` the message after the call, for `antennas` the bytes of the part. `-`
 // fills what an answer lacks. An input above 65,536 bytes is too long, and that is all that is said of it.
 //
-// A program here has no exit status: what went wrong is said on standard error, and nothing else is. bin/calls ends with 1
-// where something was said.
+// What went wrong is said on standard error, and nothing else is; the exit status stays 0. bin/calls ends with 1 where
+// something was said.
 #![tactic(auto)]
 
 ghost use Rattle.std.specs.Prelude.{◌+◌, ◌≤◌, ◌≡◌, length};
@@ -25,43 +25,51 @@ mod calls;
 mod receiving;
 mod sensing;
 
+use intake::Filled;
 use reading::find;
+use std::io::{Read, Write};
 
-fn main() {
-    let mut input = input_buffer();
-    let n = io::read_full(0, &mut input);
-    say_of_input(n);
-    let written = if n <= 65536 {
-        let mut out = io::large_buffer();
-        answer_all(&input[..n], &mut out)
+fn main(rt: HostRuntime) {
+    run(&mut rt.stdin(), &mut rt.stdout(), &mut rt.stderr());
+}
+
+fn run<R: Read, W: Write, E: Write>(input: &mut R, output: &mut W, errors: &mut E) {
+    let mut bytes = input_buffer();
+    let read = intake::read_full(input, &mut bytes);
+    say_of_input(errors, read);
+    let written = if read.size <= 65536 {
+        let mut out = [0u8; 65536];
+        answer_all(output, &bytes[..read.size], &mut out)
     } else {
-        io::write_all(1, b"too long\n")
+        output.write_all(b"too long\n").is_ok()
     };
     if !written {
-        say(b"calls: standard output could not be written to its end\n");
+        say(
+            errors,
+            b"calls: standard output could not be written to its end\n",
+        );
     }
 }
 
-fn say_of_input(size: usize) {
-    if 65536 < size {
-        say(b"calls: the input is above 65,536 bytes, too long: no line is answered\n");
+fn say_of_input<E: Write>(errors: &mut E, read: Filled) {
+    if 65536 < read.size {
+        say(
+            errors,
+            b"calls: the input is above 65,536 bytes, too long: no line is answered\n",
+        );
     } else {
-        if !at_end() {
-            say(b"calls: standard input could not be read to its end\n");
+        if read.failed {
+            say(
+                errors,
+                b"calls: standard input could not be read to its end\n",
+            );
         }
     }
 }
 
-// A read that failed has stopped io::read_full as the end does. The next read tells the two apart: it answers 0 at the
-// end.
-fn at_end() -> bool {
-    let mut one = [0u8; 1];
-    libc::read(0, &mut one) == 0
-}
-
 // Whether standard error takes it can no longer be said anywhere.
-fn say(what: &[u8]) {
-    io::write_all(2, what);
+fn say<E: Write>(errors: &mut E, what: &[u8]) {
+    let _ = errors.write_all(what);
 }
 
 // One byte more than the longest input has.
@@ -72,7 +80,7 @@ fn input_buffer() -> [u8; 65537]
 }
 
 // Whether all of the output was written.
-fn answer_all(input: &[u8], out: &mut [u8]) -> bool
+fn answer_all<W: Write>(output: &mut W, input: &[u8], out: &mut [u8]) -> bool
     requires { length input.now ≤ 65536 }
 {
     let mut at: usize = 0;
@@ -81,12 +89,12 @@ fn answer_all(input: &[u8], out: &mut [u8]) -> bool
     let mut written = true;
     while at < input.len() {
         number += 1;
-        let step = answer_first(&input[at..], number, out, taken, written);
+        let step = answer_first(output, &input[at..], number, out, taken, written);
         at += step.passed;
         taken = step.taken;
         written = step.written;
     }
-    write(out, taken, written)
+    write(output, out, taken, written)
 }
 
 // What a line leaves: the bytes of the input that it passed, the bytes of the output buffer that are taken, and whether
@@ -99,11 +107,18 @@ struct Step {
 }
 
 // Answers the first line of the input.
-fn answer_first(input: &[u8], number: u32, out: &mut [u8], taken: usize, written: bool) -> Step
+fn answer_first<W: Write>(
+    output: &mut W,
+    input: &[u8],
+    number: u32,
+    out: &mut [u8],
+    taken: usize,
+    written: bool,
+) -> Step
     ensures { (1 ≤ result.passed) × (result.passed ≤ length input.now + 1) }
 {
     let end = find(input, b'\n');
-    let room = flushed(out, taken, written);
+    let room = flushed(output, out, taken, written);
     let start = room.taken;
     let next = text::put_decimal(out, start, number);
     let answered = calls::answer(&input[0..end], out, next);
@@ -122,11 +137,11 @@ struct Room {
 
 // Writes the output buffer where a line more might not find room, and says what is taken then. The buffer has 65,536
 // bytes; the longest line has 81: a number of five digits, ` refused 1 `, a message of 64 digits and a line feed.
-fn flushed(out: &[u8], taken: usize, written: bool) -> Room {
+fn flushed<W: Write>(output: &mut W, out: &[u8], taken: usize, written: bool) -> Room {
     if 65000 < taken {
         Room {
             taken: 0,
-            written: write(out, taken, written),
+            written: write(output, out, taken, written),
         }
     } else {
         Room {
@@ -137,10 +152,10 @@ fn flushed(out: &[u8], taken: usize, written: bool) -> Room {
 }
 
 // Writes what is taken of the output buffer, unless an earlier write failed: then the output ends there.
-fn write(out: &[u8], taken: usize, written: bool) -> bool {
+fn write<W: Write>(output: &mut W, out: &[u8], taken: usize, written: bool) -> bool {
     if written {
         if taken <= out.len() {
-            return io::write_all(1, &out[0..taken]);
+            return output.write_all(&out[0..taken]).is_ok();
         }
     }
     false

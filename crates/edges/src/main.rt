@@ -4,28 +4,38 @@
 
 ghost use Rattle.std.specs.Prelude.{◌≤◌, ◌≡◌, length};
 
-fn main() {
+use std::io;
+use std::io::Write;
+
+fn main(rt: HostRuntime) -> io::Result<()> {
+    show_all(&mut rt.stdout())
+}
+
+fn show_all<W: Write>(to: &mut W) -> io::Result<()> {
     let zeros = filled(48);
     let feeds = filled(10);
-    show(b"no byte", &zeros[..0]);
-    show(b"one line feed", &feeds[..1]);
-    show(b"65,536 bytes", &zeros[..65536]);
-    show(b"65,537 bytes", &zeros);
-    show(b"65,536 line feeds", &feeds[..65536]);
-    show(b"65,537 line feeds", &feeds);
+    show(to, b"no byte", &zeros[..0])?;
+    show(to, b"one line feed", &feeds[..1])?;
+    show(to, b"65,536 bytes", &zeros[..65536])?;
+    show(to, b"65,537 bytes", &zeros)?;
+    show(to, b"65,536 line feeds", &feeds[..65536])?;
+    show(to, b"65,537 line feeds", &feeds)?;
     show(
+        to,
         b"a last line without line feed",
         b"\n00000000EB2472 00008000000000 123456 24",
-    );
+    )?;
     show(
+        to,
         b"a last line with line feed",
         b"\n00000000EB2472 00008000000000 123456 24\n",
-    );
+    )?;
     show(
+        to,
         b"a carriage return",
         b"00000000EB2472 00008000000000 123456 24\r\n",
-    );
-    show(b"bytes 0, 127, 128 and 255", b"\x00\n\x7F\n\x80\n\xFF");
+    )?;
+    show(to, b"bytes 0, 127, 128 and 255", b"\x00\n\x7F\n\x80\n\xFF")
 }
 
 fn filled(b: u8) -> [u8; 65537]
@@ -35,24 +45,24 @@ fn filled(b: u8) -> [u8; 65537]
 }
 
 // The buffer is the one that report::sift takes (report/src/lib.rt says how it comes to its size).
-fn show(name: &[u8], input: &[u8]) {
+fn show<W: Write>(to: &mut W, name: &[u8], input: &[u8]) -> io::Result<()> {
     let mut out = [0u8; 1572928];
     let size = report::sift(input, &mut out);
-    print(name, &out[..size]);
+    print(to, name, &out[..size])
 }
 
-fn print(name: &[u8], output: &[u8]) {
-    io::write_all(1, name);
-    io::write_all(1, b": ");
-    io::print_decimal(1, output.len() as u64);
-    io::write_all(1, b"\n");
+fn print<W: Write>(to: &mut W, name: &[u8], output: &[u8]) -> io::Result<()> {
+    to.write_all(name)?;
+    to.write_all(b": ")?;
+    write!(to, "{}", output.len())?;
+    to.write_all(b"\n")?;
     let first = reading::find(output, 10);
     if first < output.len() {
-        io::write_all(1, &output[..first]);
+        to.write_all(&output[..first])?;
     }
-    io::write_all(1, b"\n");
+    to.write_all(b"\n")?;
     let last = last_line(output);
-    io::write_all(1, &output[last..]);
+    to.write_all(&output[last..])
 }
 
 // Where the last line starts.

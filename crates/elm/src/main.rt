@@ -11,8 +11,8 @@
 // of transmissions, or `refused`, and the last column is the buffer after the call. An input above 65,536 bytes is too long, and that is
 // all that is said of it.
 //
-// A program here has no exit status: what went wrong is said on standard error, and nothing else is. bin/elm ends with 1
-// where something was said.
+// What went wrong is said on standard error, and nothing else is; the exit status stays 0. bin/elm ends with 1 where
+// something was said.
 #![tactic(auto)]
 
 ghost use Rattle.std.specs.Prelude.{◌+◌, ◌≤◌, ◌≡◌, length};
@@ -23,44 +23,52 @@ mod lines;
 mod receiving;
 mod sending;
 
+use intake::Filled;
 use reading::find;
+use std::io::{Read, Write};
 use uplink_elm::Receiver;
 
-fn main() {
-    let mut input = input_buffer();
-    let n = io::read_full(0, &mut input);
-    say_of_input(n);
-    let written = if n <= 65536 {
-        let mut out = io::large_buffer();
-        answer_all(&input[..n], &mut out)
+fn main(rt: HostRuntime) {
+    run(&mut rt.stdin(), &mut rt.stdout(), &mut rt.stderr());
+}
+
+fn run<R: Read, W: Write, E: Write>(input: &mut R, output: &mut W, errors: &mut E) {
+    let mut bytes = input_buffer();
+    let read = intake::read_full(input, &mut bytes);
+    say_of_input(errors, read);
+    let written = if read.size <= 65536 {
+        let mut out = [0u8; 65536];
+        answer_all(output, &bytes[..read.size], &mut out)
     } else {
-        io::write_all(1, b"too long\n")
+        output.write_all(b"too long\n").is_ok()
     };
     if !written {
-        say(b"elm: standard output could not be written to its end\n");
+        say(
+            errors,
+            b"elm: standard output could not be written to its end\n",
+        );
     }
 }
 
-fn say_of_input(size: usize) {
-    if 65536 < size {
-        say(b"elm: the input is above 65,536 bytes, too long: no line is answered\n");
+fn say_of_input<E: Write>(errors: &mut E, read: Filled) {
+    if 65536 < read.size {
+        say(
+            errors,
+            b"elm: the input is above 65,536 bytes, too long: no line is answered\n",
+        );
     } else {
-        if !at_end() {
-            say(b"elm: standard input could not be read to its end\n");
+        if read.failed {
+            say(
+                errors,
+                b"elm: standard input could not be read to its end\n",
+            );
         }
     }
 }
 
-// A read that failed has stopped io::read_full as the end does. The next read tells the two apart: it answers 0 at the
-// end.
-fn at_end() -> bool {
-    let mut one = [0u8; 1];
-    libc::read(0, &mut one) == 0
-}
-
 // Whether standard error takes it can no longer be said anywhere.
-fn say(what: &[u8]) {
-    io::write_all(2, what);
+fn say<E: Write>(errors: &mut E, what: &[u8]) {
+    let _ = errors.write_all(what);
 }
 
 // One byte more than the longest input has.
@@ -71,7 +79,7 @@ fn input_buffer() -> [u8; 65537]
 }
 
 // Whether all of the output was written.
-fn answer_all(input: &[u8], out: &mut [u8]) -> bool
+fn answer_all<W: Write>(output: &mut W, input: &[u8], out: &mut [u8]) -> bool
     requires { length input.now ≤ 65536 }
 {
     let mut at: usize = 0;
@@ -87,13 +95,13 @@ fn answer_all(input: &[u8], out: &mut [u8]) -> bool
             taken: taken,
             written: written,
         };
-        let step = answer_first(&input[at..], number, state, &mut segments, out);
+        let step = answer_first(output, &input[at..], number, state, &mut segments, out);
         at += step.passed;
         receiver = step.receiver;
         taken = step.taken;
         written = step.written;
     }
-    write(out, taken, written)
+    write(output, out, taken, written)
 }
 
 // What stands between two lines: the receiver, the bytes of the output buffer that are taken, and whether every write so far
@@ -115,7 +123,8 @@ struct Step {
 }
 
 // Answers the first line of the input.
-fn answer_first(
+fn answer_first<W: Write>(
+    output: &mut W,
     input: &[u8],
     number: u32,
     state: State,
@@ -125,7 +134,7 @@ fn answer_first(
     ensures { (1 ≤ result.passed) × (result.passed ≤ length input.now + 1) }
 {
     let end = find(input, b'\n');
-    let room = flushed(out, state.taken, state.written);
+    let room = flushed(output, out, state.taken, state.written);
     let start = room.taken;
     let next = text::put_decimal(out, start, number);
     let before = state.receiver;
@@ -147,11 +156,11 @@ struct Room {
 
 // Writes the output buffer where a line more might not find room, and says what is taken then. The buffer has 65,536
 // bytes; the longest line has 502: a number of five digits, ` refused 12 - - ` and 240 bytes in 480 digits with a line feed.
-fn flushed(out: &[u8], taken: usize, written: bool) -> Room {
+fn flushed<W: Write>(output: &mut W, out: &[u8], taken: usize, written: bool) -> Room {
     if 65000 < taken {
         Room {
             taken: 0,
-            written: write(out, taken, written),
+            written: write(output, out, taken, written),
         }
     } else {
         Room {
@@ -162,10 +171,10 @@ fn flushed(out: &[u8], taken: usize, written: bool) -> Room {
 }
 
 // Writes what is taken of the output buffer, unless an earlier write failed: then the output ends there.
-fn write(out: &[u8], taken: usize, written: bool) -> bool {
+fn write<W: Write>(output: &mut W, out: &[u8], taken: usize, written: bool) -> bool {
     if written {
         if taken <= out.len() {
-            return io::write_all(1, &out[0..taken]);
+            return output.write_all(&out[0..taken]).is_ok();
         }
     }
     false

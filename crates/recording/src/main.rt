@@ -1,36 +1,46 @@
 // Reads standard input in pieces of at most 4,096 bytes and writes what stream makes of each, until the input ends. What is held
 // between two pieces is stream's state, and no more.
 //
-// A program here has no exit status: what went wrong is said on standard error, and nothing else is. bin/recording ends with 1
-// where something was said.
+// What went wrong is said on standard error, and nothing else is; the exit status stays 0. bin/recording ends with 1 where
+// something was said.
 #![tactic(auto)]
 
+use std::io::{Read, Write};
 use stream::State;
 
-fn main() {
+fn main(rt: HostRuntime) {
+    run(&mut rt.stdin(), &mut rt.stdout(), &mut rt.stderr());
+}
+
+fn run<R: Read, W: Write, E: Write>(input: &mut R, output: &mut W, errors: &mut E) {
     let mut out = [0u8; 255616];
     let begun = stream::begin(&mut out);
-    let state = begun.state;
-    if write(&out, begun.taken) {
-        answer_all(state, &mut out);
+    if write(output, errors, &out, begun.taken) {
+        answer_all(input, output, errors, begun.state, &mut out);
     }
 }
 
-// A proved loop has to end, and nothing says that an input does. So the loop counts its turns down, from a number that no run
-// uses up.
-fn answer_all(state: State, out: &mut [u8; 255616]) {
+// A proved loop has to end, and nothing says that an input does. So the loop has as many turns as no run uses up.
+fn answer_all<R: Read, W: Write, E: Write>(
+    input: &mut R,
+    output: &mut W,
+    errors: &mut E,
+    state: State,
+    out: &mut [u8; 255616],
+) {
     let mut turn = Turn {
         state: state,
         more: true,
     };
-    let mut left = u64::MAX;
-    while 0 < left && turn.more {
-        let held = turn.state;
-        turn = answer_piece(held, out);
-        left -= 1;
+    for _ in 0..u64::MAX {
+        if !turn.more {
+            break;
+        }
+        turn = answer_piece(input, output, errors, turn.state, out);
     }
     if turn.more {
         say(
+            errors,
             b"recording: the input came in more than 18,446,744,073,709,551,615 pieces: what follows is not answered\n",
         );
     }
@@ -44,60 +54,85 @@ struct Turn {
 }
 
 // Reads a piece and answers it, or finishes at the end of the input.
-fn answer_piece(state: State, out: &mut [u8; 255616]) -> Turn {
-    let mut piece = io::buffer();
-    let got = libc::read(0, &mut piece);
-    if got < 0 {
-        say(b"recording: standard input could not be read to its end\n");
-        return Turn {
-            state: state,
-            more: false,
-        };
-    }
-    if got == 0 {
-        answer_end(state, out);
-        return Turn {
-            state: state,
-            more: false,
-        };
-    }
-    let size = io::count(got, &piece);
-    let step = stream::feed(state, &piece[..size], out);
-    let after = step.state;
-    Turn {
-        state: after,
-        more: answered(out, step.taken, step.refused),
+fn answer_piece<R: Read, W: Write, E: Write>(
+    input: &mut R,
+    output: &mut W,
+    errors: &mut E,
+    state: State,
+    out: &mut [u8; 255616],
+) -> Turn {
+    let mut piece = [0u8; 4096];
+    match input.read(&mut piece) {
+        Ok(0) => {
+            answer_end(output, errors, state, out);
+            Turn {
+                state: state,
+                more: false,
+            }
+        }
+        Ok(size) => {
+            let step = stream::feed(state, &piece[..size], out);
+            Turn {
+                state: step.state,
+                more: answered(output, errors, out, step.taken, step.refused),
+            }
+        }
+        Err(_) => {
+            say(
+                errors,
+                b"recording: standard input could not be read to its end\n",
+            );
+            Turn {
+                state: state,
+                more: false,
+            }
+        }
     }
 }
 
-fn answer_end(state: State, out: &mut [u8; 255616]) {
+fn answer_end<W: Write, E: Write>(
+    output: &mut W,
+    errors: &mut E,
+    state: State,
+    out: &mut [u8; 255616],
+) {
     let last = stream::finish(state, out);
-    answered(out, last.taken, last.refused);
+    answered(output, errors, out, last.taken, last.refused);
 }
 
 // Writes what a call left, and says whether it was not refused and all of it was written.
-fn answered(out: &[u8], taken: usize, refused: bool) -> bool {
+fn answered<W: Write, E: Write>(
+    output: &mut W,
+    errors: &mut E,
+    out: &[u8],
+    taken: usize,
+    refused: bool,
+) -> bool {
     if refused {
         say(
+            errors,
             b"recording: 9,223,372,036,854,775,808 lines have ended: what follows is not answered\n",
         );
         return false;
     }
-    write(out, taken)
+    write(output, errors, out, taken)
 }
 
 // Writes the first bytes of the output buffer.
-fn write(out: &[u8], taken: usize) -> bool {
+fn write<W: Write, E: Write>(output: &mut W, errors: &mut E, out: &[u8], taken: usize) -> bool {
     if taken <= out.len() {
-        if io::write_all(1, &out[0..taken]) {
+        if output.write_all(&out[0..taken]).is_ok() {
             return true;
         }
     }
-    say(b"recording: standard output could not be written to its end\n");
+    say(
+        errors,
+        b"recording: standard output could not be written to its end\n",
+    );
     false
 }
 
 // Whether standard error takes it can no longer be said anywhere.
-fn say(what: &[u8]) {
-    io::write_all(2, what);
+fn say<E: Write>(errors: &mut E, what: &[u8]) {
+    let _ = errors.write_all(what);
 }

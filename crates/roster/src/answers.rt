@@ -5,6 +5,7 @@ use crate::lines::{Line, Order};
 use crate::turns;
 use crate::turns::Turn;
 use rollcall::{Grade, Reading, Record, Reply, Rolled};
+use std::io::Write;
 
 // The reply of a line that is no call: the count, and an answer that is not printed.
 pub(crate) fn no_call(count: usize) -> Reply
@@ -17,11 +18,11 @@ pub(crate) fn no_call(count: usize) -> Reply
 }
 
 // The number of the line, the answer, the count after the line, and what an answer of a call has more.
-pub(crate) fn put(out: &mut [u8], t: Turn, reply: Reply) -> Turn
+pub(crate) fn put<W: Write>(output: &mut W, out: &mut [u8], t: Turn, reply: Reply) -> Turn
     ensures { (result.at ≡ t.at) × (result.number ≡ t.number) }
 {
     let count = reply.count;
-    let next = turns::with_room(out, t, count);
+    let next = turns::with_room(output, out, t, count);
     let taken = put_columns(out, next, reply);
     turns::with_taken(next, taken)
 }

@@ -9,8 +9,8 @@
 // then for `found` the altitude, the time and the grade, for `refused` the number of the refusal, for `shown` the places and
 // the records. An input above 65,536 bytes is too long, and that is all that is said of it.
 //
-// A program here has no exit status: what went wrong is said on standard error, and nothing else is. bin/roster ends with 1
-// where something was said.
+// What went wrong is said on standard error, and nothing else is; the exit status stays 0. bin/roster ends with 1 where
+// something was said.
 //
 // The records are in one array of answer_all, and four functions beside it take them (table.rt); the rest takes a line,
 // a record or what a call answered by value.
@@ -25,43 +25,51 @@ mod places;
 mod table;
 mod turns;
 
+use intake::Filled;
+use std::io::{Read, Write};
 use turns::Turn;
 
-fn main() {
-    let mut input = input_buffer();
-    let n = io::read_full(0, &mut input);
-    say_of_input(n);
-    let written = if n <= 65536 {
-        let mut out = io::large_buffer();
-        answer_to_end(&input[..n], &mut out)
+fn main(rt: HostRuntime) {
+    run(&mut rt.stdin(), &mut rt.stdout(), &mut rt.stderr());
+}
+
+fn run<R: Read, W: Write, E: Write>(input: &mut R, output: &mut W, errors: &mut E) {
+    let mut bytes = input_buffer();
+    let read = intake::read_full(input, &mut bytes);
+    say_of_input(errors, read);
+    let written = if read.size <= 65536 {
+        let mut out = [0u8; 65536];
+        answer_to_end(output, &bytes[..read.size], &mut out)
     } else {
-        io::write_all(1, b"too long\n")
+        output.write_all(b"too long\n").is_ok()
     };
     if !written {
-        say(b"roster: standard output could not be written to its end\n");
+        say(
+            errors,
+            b"roster: standard output could not be written to its end\n",
+        );
     }
 }
 
-fn say_of_input(size: usize) {
-    if 65536 < size {
-        say(b"roster: the input is above 65,536 bytes, too long: no line is answered\n");
+fn say_of_input<E: Write>(errors: &mut E, read: Filled) {
+    if 65536 < read.size {
+        say(
+            errors,
+            b"roster: the input is above 65,536 bytes, too long: no line is answered\n",
+        );
     } else {
-        if !at_end() {
-            say(b"roster: standard input could not be read to its end\n");
+        if read.failed {
+            say(
+                errors,
+                b"roster: standard input could not be read to its end\n",
+            );
         }
     }
 }
 
-// A read that failed has stopped io::read_full as the end does. The next read tells the two apart: it answers 0 at the
-// end.
-fn at_end() -> bool {
-    let mut one = [0u8; 1];
-    libc::read(0, &mut one) == 0
-}
-
 // Whether standard error takes it can no longer be said anywhere.
-fn say(what: &[u8]) {
-    io::write_all(2, what);
+fn say<E: Write>(errors: &mut E, what: &[u8]) {
+    let _ = errors.write_all(what);
 }
 
 // One byte more than the longest input has.
@@ -72,15 +80,15 @@ fn input_buffer() -> [u8; 65537]
 }
 
 // Whether all of the output was written.
-fn answer_to_end(input: &[u8], out: &mut [u8]) -> bool
+fn answer_to_end<W: Write>(output: &mut W, input: &[u8], out: &mut [u8]) -> bool
     requires { length input.now ≤ 65536 }
 {
-    let last = answer_all(input, out);
-    turns::write(out, last.taken, last.written)
+    let last = answer_all(output, input, out);
+    turns::write(output, out, last.taken, last.written)
 }
 
 // Answers every line.
-fn answer_all(input: &[u8], out: &mut [u8]) -> Turn
+fn answer_all<W: Write>(output: &mut W, input: &[u8], out: &mut [u8]) -> Turn
     requires { length input.now ≤ 65536 }
     ensures { length input.now ≤ result.at }
 {
@@ -91,7 +99,7 @@ fn answer_all(input: &[u8], out: &mut [u8]) -> Turn
         let next = turns::following(turn, input);
         let r = turns::records_of(next);
         let p = turns::places_of(next);
-        let answered = table::answer(&mut records[..r], &mut places[..p], out, next);
+        let answered = table::answer(output, &mut records[..r], &mut places[..p], out, next);
         turn = answered;
     }
     turn

@@ -6,16 +6,23 @@ use crate::lines::Line;
 use crate::turns::Turn;
 use crate::{answers, lines, places, turns};
 use rollcall::{Record, Reply};
+use std::io::Write;
 
 // Answers the line of a turn, and gives the turn that it leaves.
-pub(crate) fn answer(records: &mut [Record], places: &mut [u16], out: &mut [u8], t: Turn) -> Turn
+pub(crate) fn answer<W: Write>(
+    output: &mut W,
+    records: &mut [Record],
+    places: &mut [u16],
+    out: &mut [u8],
+    t: Turn,
+) -> Turn
     ensures { (result.at ≡ t.at) × (result.number ≡ t.number) }
 {
     let line = turns::line_of(t);
     set_all(records, line);
     places::set_all(places, line);
     let reply = call(records, places, turns::count_of(t), line);
-    let told = answers::put(out, t, reply);
+    let told = answers::put(output, out, t, reply);
     let listed = places::put_all(places, out, told);
     let taken = put_all(records, out, listed);
     answers::end(out, listed, taken)

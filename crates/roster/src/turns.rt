@@ -4,6 +4,7 @@ ghost use Rattle.std.specs.Prelude.{◌≤◌, ◌<◌, ◌≡◌, ltb, length};
 use crate::lines;
 use crate::lines::{Line, Order};
 use reading::find;
+use std::io::Write;
 
 // The longest table that a line can ask for.
 const MOST: usize = 1024;
@@ -126,10 +127,10 @@ struct Room {
 // Writes the output buffer where a line more might not find room. The buffer has 65,536 bytes; the longest line has 53,281:
 // a number of five digits, ` shown `, a count of 20, 1024 places of five digits and 1024 records of 45 bytes, each with a
 // comma or a space, and a line feed.
-pub(crate) fn with_room(out: &[u8], t: Turn, count: usize) -> Turn
+pub(crate) fn with_room<W: Write>(output: &mut W, out: &[u8], t: Turn, count: usize) -> Turn
     ensures { (result.at ≡ t.at) × (result.number ≡ t.number) }
 {
-    let room = flushed(out, t.taken, t.written);
+    let room = flushed(output, out, t.taken, t.written);
     let line = t.line;
     Turn {
         at: t.at,
@@ -143,11 +144,11 @@ pub(crate) fn with_room(out: &[u8], t: Turn, count: usize) -> Turn
     }
 }
 
-fn flushed(out: &[u8], taken: usize, written: bool) -> Room {
+fn flushed<W: Write>(output: &mut W, out: &[u8], taken: usize, written: bool) -> Room {
     if 12000 < taken {
         Room {
             taken: 0,
-            written: write(out, taken, written),
+            written: write(output, out, taken, written),
         }
     } else {
         Room {
@@ -158,10 +159,10 @@ fn flushed(out: &[u8], taken: usize, written: bool) -> Room {
 }
 
 // Writes what is taken of the output buffer, unless an earlier write failed: then the output ends there.
-pub(crate) fn write(out: &[u8], taken: usize, written: bool) -> bool {
+pub(crate) fn write<W: Write>(output: &mut W, out: &[u8], taken: usize, written: bool) -> bool {
     if written {
         if taken <= out.len() {
-            return io::write_all(1, &out[0..taken]);
+            return output.write_all(&out[0..taken]).is_ok();
         }
     }
     false

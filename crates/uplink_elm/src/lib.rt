@@ -183,7 +183,7 @@ fn store(number: u8, m: &[u8], segments: &mut [u8])
 {
     let from = number as usize * 10;
     let to = from + 10;
-    bytes::copy(&m[1..11], &mut segments[from..to]);
+    segments[from..to].copy_from_slice(&m[1..11]);
 }
 
 fn answered(answer: Answer, receiver: Receiver) -> Received

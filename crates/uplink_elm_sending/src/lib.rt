@@ -156,6 +156,6 @@ fn transmit(control: u8, number: u8, address: u32, segments: &[u8], out: &mut [u
     let from = number as usize * 10;
     let to = from + 10;
     out[0] = 192 + 16 * control + number;
-    bytes::copy(&segments[from..to], &mut out[1..11]);
+    out[1..11].copy_from_slice(&segments[from..to]);
     encoder::seal_interrogation(out, address);
 }
