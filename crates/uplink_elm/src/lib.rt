@@ -20,7 +20,7 @@ use transponder::Reception;
 
 // Whether a message is opened, the number of its last segment, and the segments held: a bit for each of 16 numbers, the top
 // one for 0.
-#[derive(Drop)]
+#[derive(Clone, Copy)]
 pub struct Receiver {
     pub opened: bool,
     pub last: u8,
@@ -28,14 +28,14 @@ pub struct Receiver {
 }
 
 // How far a message has come: the acknowledgement, and whether all its segments are held.
-#[derive(Drop)]
+#[derive(Clone, Copy)]
 pub struct Progress {
     pub acknowledgement: u16,
     pub whole: bool,
 }
 
 // The transponder's answer with the progress, or the number of the refusal.
-#[derive(Drop)]
+#[derive(Clone, Copy)]
 pub enum Answer {
     Own(Progress),
     AllCall(Progress),
@@ -45,7 +45,7 @@ pub enum Answer {
 }
 
 // What a call gives: its answer, and the receiver after it.
-#[derive(Drop)]
+#[derive(Clone, Copy)]
 pub struct Received {
     pub answer: Answer,
     pub receiver: Receiver,
@@ -53,7 +53,7 @@ pub struct Received {
 
 // What an interrogation of format 24 does: it is refused, changes nothing, or stores its segment and leaves this receiver. No
 // public function gives one; it is public for the proofs about lists of calls.
-#[derive(Drop)]
+#[derive(Clone, Copy)]
 pub enum Effect {
     Refused(u32),
     Nothing,
@@ -183,7 +183,7 @@ fn store(number: u8, m: &[u8], segments: &mut [u8])
 {
     let from = number as usize * 10;
     let to = from + 10;
-    bytes::copy(&m[1..11], &mut segments[from..to]);
+    segments[from..to].copy_from_slice(&m[1..11]);
 }
 
 fn answered(answer: Answer, receiver: Receiver) -> Received

@@ -12,7 +12,7 @@ ghost use Rattle.uplink_elm.specs.Segments.{segment_at};
 ghost use Rattle.uplink_elm_sending.specs.Sending.{said, transmission, transmissions, round_numbers, segment_count, is_round_size, is_segmented, last_outcome, round_outcome, opening_after, exchange_after, last_after, round_after};
 
 // The number of transmissions written, or the number of the refusal.
-#[derive(Drop)]
+#[derive(Clone, Copy)]
 pub enum Sending {
     Sent(usize),
     Refused(u32),
@@ -156,6 +156,6 @@ fn transmit(control: u8, number: u8, address: u32, segments: &[u8], out: &mut [u
     let from = number as usize * 10;
     let to = from + 10;
     out[0] = 192 + 16 * control + number;
-    bytes::copy(&segments[from..to], &mut out[1..11]);
+    out[1..11].copy_from_slice(&segments[from..to]);
     encoder::seal_interrogation(out, address);
 }
