@@ -12,7 +12,11 @@ use Rattle.uplink_elm.proofs.Effects.{gives_by, stores_extended}
 use Rattle.uplink_elm.proofs.receive_own.Goals as goal
 
 pub store-requires : goal.store-requires
-store-requires c = record { number_bound = c.segment_number.ensures.upper_bound; m_len = c.requires (stores_extended _ _ _ (sym c.in-Stored.is ∙ c.own_effect-effect.ensures)); segments_len = search rules }
+store-requires c = record {
+  number_bound = c.segment_number.ensures.upper_bound;
+  m_len = c.requires (stores_extended _ _ _ (sym c.in-Stored.is ∙ c.own_effect-effect.ensures));
+  segments_len = search rules;
+}
 
 pub returns-in-Refused : goal.returns-in-Refused
 returns-in-Refused c =
