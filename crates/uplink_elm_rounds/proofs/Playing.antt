@@ -18,7 +18,7 @@ use Rattle.uplink_elm.specs.declared.Progress.{Progress}
 use Rattle.uplink_elm.specs.Segments.{segment_number, segment, is_held, segment_at}
 use Rattle.uplink_elm.specs.Receiving.{receiving_outcome}
 use Rattle.uplink_elm.proofs.Laws.{nothing_held, segment-at-length}
-use Rattle.uplink_elm_meaning.specs.Machine.{Machine, Step, storing, does, is_some, acknowledgement, resulting, showing, machine_after, machine_outcome}
+use Rattle.uplink_elm_meaning.specs.Machine.{Machine, Step, storing, does, is_some, resulting, showing, machine_after, machine_outcome}
 use Rattle.uplink_elm_meaning.specs.Machine.Step.{becomes}
 use Rattle.uplink_elm_meaning.specs.Running.{State, after}
 use Rattle.uplink_elm_meaning.proofs.Laws.{Good, same_numbers, same-progress, same_outcome, good-after, opened_with, adds_to, asking_adds, sealed-step, sealed-shows}

@@ -6,7 +6,7 @@ use mathlib.Core.List.{List, [], ◌∷◌, ◌++◌, append-nil, append_assoc}
 use Prim.Native.Nat.{ℕ, suc, ◌+◌, ◌-◌, ◌*◌, ◌/◌, ◌^◌, ◌<◌, ◌≤◌}
 use native.Mathlib.Omega.{arith}
 use lib.Bits.{bit_xor}
-use lib.ListN.{length, get_or, set, take, drop, length-append, length-drop, length-set}
+use lib.ListN.{length, get_or, set, take, drop, length-append, length-drop}
 use lib.Seq.{take_at, take_all, length-take-le}
 use borrow.Rule.Slice.PartMut.{put_mid, Post-is}
 use Rattle.outcome.specs.Outcomes.{done}
@@ -16,7 +16,7 @@ use Rattle.division.specs.Division.{parity, overlay}
 use Rattle.encoder.specs.Seals.{seal_outcome, interrogation_after}
 use Rattle.encoder.proofs.Laws.{accepted, interrogation_after_lem, interrogation_is, sealed-length, seal_by_field}
 use Rattle.uplink_elm.specs.Segments.{is_extended, reply_control, segment_number, segment, segment_at}
-use Rattle.uplink_elm.proofs.Laws.{segment-at, segment-at-length, segment_of, copied, part_length, parts_of}
+use Rattle.uplink_elm.proofs.Laws.{segment-at, segment-at-length, segment_of, parts_of}
 use Rattle.uplink_elm_sending.specs.Sending.{unsealed, transmission, transmissions, segment_count, last_numbers}
 
 -- ---- one transmission
@@ -94,13 +94,12 @@ module _ (control n address : ℕ) (segments : List ℕ) (hc : control < 3) (hn 
   ten = segment-at-length segments n fits
 
   -- what comes back from the copy, and what the seal makes of it
-  pub transmitted : (out ys sealed : List ℕ) (k from to : ℕ) → length out ≡ 14 → from ≡ n * 10 → to ≡ from + 10
-      → k ≡ length (take (to - from) (drop from segments))
-      → ys ≡ take k (take (to - from) (drop from segments)) ++ drop k (take 10 (drop 1 (set out 0 (192 + 16 * control + n))))
+  pub transmitted : (out ys sealed : List ℕ) (from to : ℕ) → length out ≡ 14 → from ≡ n * 10 → to ≡ from + 10
+      → ys ≡ take (to - from) (drop from segments)
       → sealed ≡ interrogation_after (put_mid 1 10 (set out 0 (192 + 16 * control + n)) ys) address
       → sealed ≡ transmission address control n (segment_at segments n)
-  transmitted out ys sealed k from to long ef et ek ey es =
-      es ∙ ap (λ (m : List ℕ). interrogation_after m address) (put-field control n (segment_at segments n) ten out ys long (came ∙ is))
+  transmitted out ys sealed from to long ef et ey es =
+      es ∙ ap (λ (m : List ℕ). interrogation_after m address) (put-field control n (segment_at segments n) ten out ys long (ey ∙ is))
       ∙ sealed-with control n (segment_at segments n) ten address ha (omega arith) hn (drop 11 out) (length-drop 11 out ∙ omega (arith, long))
     where
       size : to - from ≡ 10
@@ -108,15 +107,6 @@ module _ (control n address : ℕ) (segments : List ℕ) (hc : control < 3) (hn 
 
       is : take (to - from) (drop from segments) ≡ segment_at segments n
       is = ap₂ (λ (x y : ℕ). take x (drop y segments)) size ef ∙ sym (segment-at segments n)
-
-      part : length (take 10 (drop 1 (set out 0 (192 + 16 * control + n)))) ≤ length (take (to - from) (drop from segments))
-      part =
-          let here : length (take 10 (drop 1 (set out 0 (192 + 16 * control + n)))) ≡ 10 =
-          part_length 1 10 (set out 0 (192 + 16 * control + n)) (omega (arith, length-set out 0 (192 + 16 * control + n))) in
-          omega (arith, here, ap length is, ten)
-
-      came : ys ≡ take (to - from) (drop from segments)
-      came = copied k (take (to - from) (drop from segments)) _ ys ek part ey
 
 -- ---- several
 
