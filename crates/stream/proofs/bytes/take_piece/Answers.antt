@@ -1,13 +1,12 @@
 -- `stream::bytes::take_piece` meets its contract: what is printed and held from here on is what is left of the piece's.
 use mathlib.Core.Path.{◌≡◌, refl, sym, ap, ◌∙◌}
 use mathlib.Core.List.{List, ◌++◌}
-use Prim.Native.Nat.{ℕ, ◌+◌, ◌-◌, ◌*◌, ◌≤◌, ◌<◌}
+use Prim.Native.Nat.{ℕ, ◌+◌, ◌*◌, ◌≤◌, ◌<◌}
 use native.Mathlib.Omega.{arith}
 use lib.ListN.{length, drop, get_or, length-append}
 use Rattle.text.specs.Output.{append}
 use Rattle.text.proofs.Laws.{part_done, all_done}
-use Rattle.stream.specs.Stream.{Held, held, held_after_byte, printed_at_byte, held_after, printed}
-use borrow.Author.Rules.{rules}
+use Rattle.stream.specs.Stream.{Held, held, held_after_byte, printed_at_byte, printed}
 use Rattle.stream.proofs.Printing.{byte-printed, byte-held, all-printed, all_held}
 use Rattle.stream.proofs.bytes.take_piece.Goals as goal
 
@@ -22,7 +21,7 @@ loop-i-preserved c =
     let l = c.loop-i in
     let step = c.take_byte-walk in
     let piece : List ℕ = c.args.piece.now in
-    let h : Held = held l.walk.ended l.auto l.walk.size in
+    let h : Held = held l.walk.ended l.kept l.walk.size in
     let after : Held = held step.result.ended step.new.kept step.result.size in
     let text : List ℕ = printed_at_byte h (get_or piece l.i 0) in
     let rest : List ℕ = printed after (drop (l.i + 1) piece) in
@@ -48,7 +47,7 @@ pub returns : goal.returns
 returns c =
     let l = c.loop-i in
     let piece : List ℕ = c.args.piece.now in
-    let h : Held = held l.walk.ended l.auto l.walk.size in
+    let h : Held = held l.walk.ended l.kept l.walk.size in
     let start : Held = held c.args.start.ended c.args.kept.now c.args.start.size in
     let over : length piece ≤ l.i = omega arith in
     let none = all-printed h piece l.i over in record { size_after = sym (all_held h piece l.i over) ∙ l.invariant.5; taken_after = all_done (l.out, l.walk.taken) (c.args.out.now, c.args.start.taken) (printed h (drop l.i piece)) (printed start piece) none l.invariant.4; piece_len_bound_2 = omega (arith, l.invariant.0, l.invariant.6, ap length none) }

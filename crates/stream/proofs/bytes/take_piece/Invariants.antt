@@ -1,14 +1,9 @@
 -- `stream::bytes::take_piece` meets its contract: what is printed and held from here on is what is left of the piece's.
-use mathlib.Core.Path.{◌≡◌, refl, sym, ap, ◌∙◌}
-use mathlib.Core.List.{List, ◌++◌}
-use Prim.Native.Nat.{ℕ, ◌+◌, ◌-◌, ◌*◌, ◌≤◌, ◌<◌}
-use native.Mathlib.Omega.{arith}
-use lib.ListN.{length, drop, get_or, length-append}
+use mathlib.Core.Path.{◌≡◌}
+use Prim.Native.Nat.{◌+◌, ◌-◌, ◌*◌, ◌≤◌}
+use lib.ListN.{length, drop}
 use Rattle.text.specs.Output.{append}
-use Rattle.text.proofs.Laws.{part_done, all_done}
-use Rattle.stream.specs.Stream.{Held, held, held_after_byte, printed_at_byte, held_after, printed}
-use borrow.Author.Rules.{rules}
-use Rattle.stream.proofs.Printing.{byte-printed, byte-held, all-printed, all_held}
+use Rattle.stream.specs.Stream.{held, held_after, printed}
 use Rattle.stream.proofs.bytes.take_piece.Given as goal
 
 abbrev pub invariant-loop-i : goal.invariant-loop-i
