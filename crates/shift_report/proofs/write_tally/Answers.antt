@@ -1,14 +1,13 @@
 -- `shift_report::write_tally` meets its contract.
-use mathlib.Core.Path.{◌≡◌, refl, sym, ap, ◌∙◌, subst}
+use mathlib.Core.Path.{◌≡◌, sym, ap, ◌∙◌, subst}
 use mathlib.Core.List.{List}
 use Prim.Native.Nat.{ℕ, ◌≤◌}
 use native.Mathlib.Omega.{arith}
 use lib.ListN.{length, take, drop, replicate}
 use lib.Seq.{take_at}
-use borrow.Author.Rules.{rules}
 use Rattle.text.specs.Output.{append}
 use Rattle.report.specs.Sift.{sift_output}
-use Rattle.shift_report.specs.Tally.{rows, page, tally_output}
+use Rattle.shift_report.specs.Tally.{page, tally_output}
 use Rattle.shift_report.specs.Printed.{printed_rows}
 use Rattle.shift_report.proofs.Pages.{output_page, output_too_long}
 use Rattle.shift_report.proofs.Printing.{rows_of_printed}

@@ -1,13 +1,9 @@
 -- `shift_report::counting::count_all` meets its contract. The loop's invariant: the lines counted and those left from `at` on
 -- are all.
-use mathlib.Core.Path.{◌≡◌, refl}
-use mathlib.Core.List.{List}
-use Prim.Native.Nat.{ℕ, ◌+◌, ◌-◌, ◌≤◌}
-use native.Mathlib.Omega.{arith}
+use mathlib.Core.Path.{◌≡◌}
+use Prim.Native.Nat.{◌+◌, ◌-◌, ◌≤◌}
 use lib.ListN.{length, drop}
-use Rattle.reading.proofs.Laws.{line-within}
 use Rattle.shift_report.specs.Printed.{rows_in}
-use Rattle.shift_report.proofs.Counts.{one-row, no-row-left}
 use Rattle.shift_report.proofs.counting.count_all.Given as goal
 
 abbrev pub invariant-loop-at : goal.invariant-loop-at

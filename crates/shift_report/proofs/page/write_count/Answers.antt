@@ -1,11 +1,9 @@
 -- `shift_report::page::write_count` meets its contract.
 use mathlib.Core.Path.{ap, ◌∙◌, subst}
-use mathlib.Core.List.{List}
 use Prim.Native.Nat.{ℕ, ◌≤◌}
 use lib.ListN.{length}
 use Rattle.text.specs.Digits.{decimal_text}
 use Rattle.text.specs.Output.{append}
-use borrow.Author.Rules.{rules}
 use Rattle.shift_report.specs.Tally.{page_line}
 use Rattle.shift_report.proofs.page.write_count.Goals as goal
 
