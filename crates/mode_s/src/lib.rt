@@ -7,13 +7,13 @@
 
 ghost use Rattle.std.specs.Prelude.{◌≡◌, length};
 ghost use Rattle.encoder.specs.Seals.{seal_outcome, reply_after, interrogation_after};
-ghost use Rattle.encoder.specs.Seals.{said as saidSeal};
+ghost use Rattle.encoder.specs.Seals.{said as said_seal};
 ghost use Rattle.transponder.specs.Receptions.{reception_outcome};
-ghost use Rattle.transponder.specs.Receptions.{said as saidReception};
+ghost use Rattle.transponder.specs.Receptions.{said as said_reception};
 ghost use Rattle.sensor.specs.Verdicts.{sensor_outcome, sensor_after, mark_of};
-ghost use Rattle.sensor.specs.Verdicts.{said as saidVerdict};
+ghost use Rattle.sensor.specs.Verdicts.{said as said_verdict};
 ghost use Rattle.remainders.specs.Recording.{remainders_outcome, remainders_after};
-ghost use Rattle.remainders.specs.Recording.{said as saidDivided};
+ghost use Rattle.remainders.specs.Recording.{said as said_divided};
 ghost use Rattle.mode_s.specs.Packing.{parts, packed};
 ghost use Rattle.mode_s.specs.Packing.Source.{seal, transponder, sensor, recording};
 
@@ -72,7 +72,7 @@ pub extern "C" fn mode_s_remainders(replies: &[u8], remainders: &mut [u32]) -> u
 }
 
 fn packed_seal(s: Seal) -> u64
-    ensures { result ≡ packed seal (saidSeal s) }
+    ensures { result ≡ packed seal (said_seal s) }
 {
     match s {
         Seal::Sealed => parts(2, 0, 0, 0, 0, 0),
@@ -81,7 +81,7 @@ fn packed_seal(s: Seal) -> u64
 }
 
 fn packed_reception(s: Reception) -> u64
-    ensures { result ≡ packed transponder (saidReception s) }
+    ensures { result ≡ packed transponder (said_reception s) }
 {
     match s {
         Reception::Own => parts(3, 0, 0, 0, 0, 0),
@@ -93,7 +93,7 @@ fn packed_reception(s: Reception) -> u64
 }
 
 fn packed_verdict(s: Verdict) -> u64
-    ensures { result ≡ packed sensor (saidVerdict s) }
+    ensures { result ≡ packed sensor (said_verdict s) }
 {
     match s {
         Verdict::Clean => parts(7, 0, 0, 0, 0, 0),
@@ -105,7 +105,7 @@ fn packed_verdict(s: Verdict) -> u64
 }
 
 fn packed_divided(s: Divided) -> u64
-    ensures { result ≡ packed recording (saidDivided s) }
+    ensures { result ≡ packed recording (said_divided s) }
 {
     match s {
         Divided::All => parts(11, 0, 0, 0, 0, 0),

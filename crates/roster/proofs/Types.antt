@@ -8,7 +8,7 @@ use borrow.Table.Copies.{Cp}
 use borrow.Table.OneValue.{One}
 use borrow.Table.Referent.{rt_f, f_int}
 use mir.Syntax.{w8}
-use Rattle.walks.proofs.Structs.{copy_of, paramOf, result_of}
+use Rattle.walks.proofs.Structs.{copy_of, param_of, result_of}
 use Rattle.rollcall_table.specs.contracts.Sighting as S
 use Rattle.rollcall_table.proofs.Sighting.TheLaws as S'
 use Rattle.rollcall_plans.specs.contracts.Reply as A
@@ -33,7 +33,7 @@ abbrev pub lin_copy : Cp Lin
 lin_copy = copy_of L.the_type L'.the_laws L'.the_copy
 
 abbrev pub lin_p : {n : ℕ} → ParamKind n
-lin_p = paramOf L.the_type L'.the_laws L'.the_copy L'.the_plain refl
+lin_p = param_of L.the_type L'.the_laws L'.the_copy L'.the_plain refl
 
 abbrev pub lin_r : {n : ℕ} → ResultKind n
 lin_r = result_of L.the_type L'.the_laws L'.the_copy L'.the_plain refl
@@ -50,7 +50,7 @@ abbrev pub trn_copy : Cp Trn
 trn_copy = copy_of T.the_type T'.the_laws T'.the_copy
 
 abbrev pub trn_p : {n : ℕ} → ParamKind n
-trn_p = paramOf T.the_type T'.the_laws T'.the_copy T'.the_plain refl
+trn_p = param_of T.the_type T'.the_laws T'.the_copy T'.the_plain refl
 
 abbrev pub trn_r : {n : ℕ} → ResultKind n
 trn_r = result_of T.the_type T'.the_laws T'.the_copy T'.the_plain refl
@@ -64,7 +64,7 @@ abbrev pub rpl_copy : Cp A.the_row
 rpl_copy = copy_of A.the_type A'.the_laws A'.the_copy
 
 abbrev pub rpl_p : {n : ℕ} → ParamKind n
-rpl_p = paramOf A.the_type A'.the_laws A'.the_copy A'.the_plain refl
+rpl_p = param_of A.the_type A'.the_laws A'.the_copy A'.the_plain refl
 
 -- ---- a sighting
 

@@ -10,7 +10,7 @@ mod control;
 mod holding;
 
 ghost use Rattle.std.specs.Prelude.{◌<◌, ◌≡◌, true, length};
-ghost use Rattle.transponder.specs.Receptions.{said as saidReception};
+ghost use Rattle.transponder.specs.Receptions.{said as said_reception};
 ghost use Rattle.transponder.specs.declared.Reception.TheVariants.{Own};
 ghost use Rattle.uplink_elm.specs.Segments.{is_extended, segment, stored};
 ghost use Rattle.uplink_elm.specs.Receiving.{said, fresh_receiver, opening_effect, adding_effect, effect_of, own_effect, receiver_of, segments_of, outcome_of, receiving_outcome, receiver_after, segments_after};
@@ -96,7 +96,7 @@ pub fn receive(own: u32, m: &[u8], receiver: Receiver, segments: &mut [u8; 160])
 // An interrogation that is read as the own address.
 fn receive_own(m: &[u8], receiver: Receiver, segments: &mut [u8; 160]) -> Received
     requires { is_extended m.now ≡ true → length m.now ≡ 14 }
-    ensures answer_value { said result.answer ≡ outcome_of (own_effect m.now receiver) (saidReception Own) receiver }
+    ensures answer_value { said result.answer ≡ outcome_of (own_effect m.now receiver) (said_reception Own) receiver }
     ensures receiver_value { result.receiver ≡ receiver_of (own_effect m.now receiver) receiver }
     ensures segments_after { segments.new ≡ segments_of (own_effect m.now receiver) m.now segments.old }
 {

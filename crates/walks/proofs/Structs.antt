@@ -44,8 +44,8 @@ module _ (T : Declared) (laws : L.Laws T) (copy : L.Copyables T.parts) where
       of_mem = whole_mem 𝓛 (row T);
     }
 
-    abbrev pub paramOf : {n : ℕ} → ParamKind n
-    paramOf = p_val valued lawful
+    abbrev pub param_of : {n : ℕ} → ParamKind n
+    param_of = p_val valued lawful
 
     abbrev pub result_of : {n : ℕ} → ResultKind n
     result_of = r_val valued lawful

@@ -30,7 +30,7 @@ use borrow.Table.Referent.{f_int}
 use Rattle.rollcall_table.specs.declared.Record.{Record}
 use Rattle.rollcall_table.specs.contracts.Record as R
 use Rattle.rollcall_table.proofs.Record.TheLaws as R'
-use Rattle.rollcall.proofs.Kit.{Code, Me, Cx, Row, Outs, Env, EnvOf, rows_from, leases, ty_r, tys_p, Δret, some, with_next, in_block₀, in_loop₀, any_gone, whole, sc_here, rest, ℕ, ◌+◌, ◌-◌, ◌<◌, ◌≤◌, ◌≡◌, refl, sym, ap, ◌∙◌, subst, List, [], ◌∷◌, ◌++◌, length, ltb-true, ltb-false, Ura, Ty, named, erased, w64, ty_int, ty_bool, Tables, Lfts, Shares, now, Over, World, fix_len, v_at, Spares-sslice, sslice, mslice, reads_mslice, reads_sslice, reads_Sc, as_is, s_int, s_bool, lease, dead, Rec, U16, rec_one, rec_copy, Knows, gone, used, held, mut_to, imm_to, flag, mutA, owedA, leftA, ptrA, keeps, ◌⟫◌, meet, last, free, freeing, branch, blocks, loops, leaves, begins, relends, gathers, ends, backs, forgets, does, silently, calls, copies, skips, returns, homes, known}
+use Rattle.rollcall.proofs.Kit.{Code, Me, Cx, Row, Outs, Env, EnvOf, rows_from, leases, ty_r, tys_p, Δret, some, with_next, in_block₀, in_loop₀, any_gone, whole, sc_here, rest, ℕ, ◌+◌, ◌-◌, ◌<◌, ◌≤◌, ◌≡◌, refl, sym, ap, ◌∙◌, subst, List, [], ◌∷◌, ◌++◌, length, ltb-true, ltb-false, Ura, Ty, named, erased, w64, ty_int, ty_bool, Tables, Lfts, Shares, now, Over, World, fix_len, v_at, Spares-sslice, sslice, mslice, reads_mslice, reads_sslice, reads_Sc, as_is, s_int, s_bool, lease, dead, Rec, U16, rec_one, rec_copy, Knows, gone, used, held, mut_to, imm_to, flag, mut_a, owed_a, left_a, ptr_a, keeps, ◌⟫◌, meet, last, free, freeing, branch, blocks, loops, leaves, begins, relends, gathers, ends, backs, forgets, does, silently, calls, copies, skips, returns, homes, known}
 use Rattle.rollcall.proofs.Sigs.{blank_s}
 use Rattle.walks.proofs.Total.{WalkedOf, AskedOf, by-walk-of}
 use Rattle.roster.specs.declared.turns.Turn.{Turn}
@@ -66,11 +66,11 @@ abbrev τp : Ty
 abbrev xs : List Ty
 xs = ty_array (lone Rec.mir) 1024 ∷ ty_array (ty_int w16) 1024 ∷ (Trn.mir ++ (Trn.mir ++ (ty_int w64 ∷ ty_int w64 ∷ (Trn.mir ++ (Rec.mir ++ (ty_bool ∷ τr ∷ slice_ty (mut_to erased Rec) ∷ τp ∷ slice_ty (mut_to erased U16) ∷ mut_to erased U8 ∷ slice_ty (mut_to erased U8) ∷ []))))))
 
-roomR : S.Room Rec 1024
-roomR = (lit< tt, lit< tt)
+room_r : S.Room Rec 1024
+room_r = (lit< tt, lit< tt)
 
-roomP : S.Room U16 1024
-roomP = (lit< tt, lit< tt)
+room_p : S.Room U16 1024
+room_p = (lit< tt, lit< tt)
 
 module _ {M : Type 1} {𝓤 : Ura M} (𝓛 : Logic 𝓤) (𝓣 : Tables 𝓤 𝓛.H) (blank : Knows 𝓛 𝓣 blank_s blank-def.name) (first : Knows 𝓛 𝓣 first_s first_def.name) (goes_on : Knows 𝓛 𝓣 goes_on_s goes-on-def.name) (following : Knows 𝓛 𝓣 following_s following-def.name) (records-of : Knows 𝓛 𝓣 records_of_s records-of-def.name) (places_of : Knows 𝓛 𝓣 places_of_s places-of-def.name) (answer : Knows 𝓛 𝓣 answer_s answer-def.name) (κs : Lfts 2) (qs : Shares 2) (bs : List ℕ) where
   open 𝓛 use {H}
@@ -95,16 +95,16 @@ module _ {M : Type 1} {𝓤 : Ura M} (𝓛 : Logic 𝓤) (𝓣 : Tables 𝓤 �
   abbrev second : Code 𝓛 𝓣 E (Tab (whole Trn) (sc_here (s_int w64)) (sc_here (s_int w64)) (sc_here s_bool)) (rest 5 mir'.turn-1) Ways
   second =
       begins 2 (tt, (tt, (tt, (tt, (tt, (tt, (tt, (tt, (tt, (tt, (tt, (tt, (tt, (tt, (tt, (tt, (tt, (tt, tt))))))))))))))))))
-      (does (t_arr_borrowᵖ 𝓛 E 𝓣 Rec _ 3 12 1024 2 τr (λ x. x) (λ u. u.1.1.1.1.1.1.1.0) (as_is 𝓛 (arr_f Rec 1024 0)) (room_gone 𝓛 τr) refl (λ b o. tt) roomR) ⟫
+      (does (t_arr_borrowᵖ 𝓛 E 𝓣 Rec _ 3 12 1024 2 τr (λ x. x) (λ u. u.1.1.1.1.1.1.1.0) (as_is 𝓛 (arr_f Rec 1024 0)) (room_gone 𝓛 τr) refl (λ b o. tt) room_r) ⟫
       does (t_sl_aggregate 𝓛 E Rec 𝓣 (as_mut Rec) _ 12 13 2 τr (mut_to erased Rec) (λ x. x) (o_at 7 (ty_int w64) (λ x. vint w64 x)) (as_is 𝓛 (msptr Rec τr 2)) (room_gone 𝓛 (slice_ty (mut_to erased Rec))) (reads_Sc 𝓛 (s_int w64), refl) refl refl (λ b o k. tt)) ⟫
       begins 3 (tt, (tt, (tt, (tt, (tt, (tt, (tt, (tt, (tt, (tt, (tt, (tt, (tt, (tt, (tt, (tt, (tt, (tt, tt))))))))))))))))))
-      (does (t_arr_borrowᵖ 𝓛 E 𝓣 U16 _ 4 14 1024 3 τp (λ x. x) (λ u. u.1.1.1.1.1.1.1.1.0) (as_is 𝓛 (arr_f U16 1024 0)) (room_gone 𝓛 τp) refl (λ b o. tt) roomP) ⟫
+      (does (t_arr_borrowᵖ 𝓛 E 𝓣 U16 _ 4 14 1024 3 τp (λ x. x) (λ u. u.1.1.1.1.1.1.1.1.0) (as_is 𝓛 (arr_f U16 1024 0)) (room_gone 𝓛 τp) refl (λ b o. tt) room_p) ⟫
       does (t_sl_aggregate 𝓛 E U16 𝓣 (as_mut U16) _ 14 15 3 τp (mut_to erased U16) (λ x. x) (o_at 8 (ty_int w64) (λ x. vint w64 x)) (as_is 𝓛 (msptr U16 τp 3)) (room_gone 𝓛 (slice_ty (mut_to erased U16))) (reads_Sc 𝓛 (s_int w64), refl) refl refl (λ b o k. tt)) ⟫
       begins 4 (tt, (tt, (tt, (tt, (tt, (tt, (tt, (tt, (tt, (tt, (tt, (tt, (tt, (tt, (tt, (tt, (tt, (tt, tt))))))))))))))))))
-      (relends 2 16 1 4 (mutA U8 (named 1) 1) gone tt refl refl refl ⟫
-      gathers 2 16 17 4 (owedA U8 (named 1) 1 4 (lease κs.1.0 qs.1.0)) (ptrA U8 4) gone refl refl refl ⟫
+      (relends 2 16 1 4 (mut_a U8 (named 1) 1) gone tt refl refl refl ⟫
+      gathers 2 16 17 4 (owed_a U8 (named 1) 1 4 (lease κs.1.0 qs.1.0)) (ptr_a U8 4) gone refl refl refl ⟫
       calls answer_s answer-def.name answer (record { pos = 13; ty = mut_to erased Rec; ref = λ x. x }, (record { pos = 15; ty = mut_to erased U16; ref = λ x. x }, (record { pos = 17; ty = mut_to erased U8; ref = λ x. x }, (record { pos = 6; st = []; d = 0; at = λ x. x }, tt)))) 9 (2 ∷ 3 ∷ 4 ∷ []) (as_is 𝓛 (mslice Rec (mut_to erased Rec) 2), reads_mslice 𝓛 Rec (mut_to erased Rec) 2, refl, (as_is 𝓛 (mslice U16 (mut_to erased U16) 3), reads_mslice 𝓛 U16 (mut_to erased U16) 3, refl, (as_is 𝓛 (mslice U8 (mut_to erased U8) 4), reads_mslice 𝓛 U8 (mut_to erased U8) 4, refl, (((keeps {𝓛 = 𝓛} trn_one trn_copy).out, refl), tt)))) gone (tt, (tt, (tt, tt))) refl ⟫
-      ends 4 refl (backs 17 2 1 4 (leftA U8) (owedA U8 (named 1) 1 4 (lease κs.1.0 qs.1.0)) refl refl (forgets 4 dead refl
+      ends 4 refl (backs 17 2 1 4 (left_a U8) (owed_a U8 (named 1) 1 4 (lease κs.1.0 qs.1.0)) refl refl (forgets 4 dead refl
       (ends 3 refl (silently (g_back_arrᵖ 𝓛 E U16 _ 15 4 3 1024 (mut_to erased U16) (λ x. x) (λ x. x) (as_is 𝓛 (msleft U16 (mut_to erased U16))) (as_is 𝓛 (arr_owed_p U16 1024 3)) refl) (forgets 3 dead refl
       (ends 2 refl (silently (g_back_arrᵖ 𝓛 E Rec _ 13 3 2 1024 (mut_to erased Rec) (λ x. x) (λ x. x) (as_is 𝓛 (msleft Rec (mut_to erased Rec))) (as_is 𝓛 (arr_owed_p Rec 1024 2)) refl) (forgets 2 dead refl
       (free 6 (held Trn) (free 7 (used (s_int w64)) (free 8 (used (s_int w64)) (free 11 (used s_bool)

@@ -4,7 +4,7 @@ use types.Logic.{Logic}
 use contract.Running.{tables_of}
 use mir.Syntax.{ty_unit}
 use denote.Slice.{slice_ty}
-use Rattle.rollcall.proofs.Kit.{Code, Me, Cx, Row, Outs, Env, EnvOf, rows_from, leases, ty_r, tys_p, Δret, any_gone, whole, sc_here, rest, ℕ, refl, ◌∙◌, List, [], ◌∷◌, ◌++◌, Ura, Ty, named, erased, w64, ty_int, Tables, Lfts, Shares, now, Over, World, fix_len, v_at, Spares-sslice, mslice, reads_mslice, reads_sslice, reads_Sc, as_is, s_int, s_unit, lease, dead, Rec, U16, Knows, gone, used, held, mut_to, imm_to, mutA, owedA, leftA, ptrA, owedS, ptrS, sharedA, keeps, ◌⟫◌, free, begins, relends, gathers, reshares, gathersS, unshares, ends, backs, forgets, calls, returns, Walked, Asked, homes, known, by-walk}
+use Rattle.rollcall.proofs.Kit.{Code, Me, Cx, Row, Outs, Env, EnvOf, rows_from, leases, ty_r, tys_p, Δret, any_gone, whole, sc_here, rest, ℕ, refl, ◌∙◌, List, [], ◌∷◌, ◌++◌, Ura, Ty, named, erased, w64, ty_int, Tables, Lfts, Shares, now, Over, World, fix_len, v_at, Spares-sslice, mslice, reads_mslice, reads_sslice, reads_Sc, as_is, s_int, s_unit, lease, dead, Rec, U16, Knows, gone, used, held, mut_to, imm_to, mut_a, owed_a, left_a, ptr_a, owed_s, ptr_s, shared_a, keeps, ◌⟫◌, free, begins, relends, gathers, reshares, gathers_s, unshares, ends, backs, forgets, calls, returns, Walked, Asked, homes, known, by-walk}
 use Rattle.rollcall.proofs.Types.{Rpl}
 use Rattle.roster.proofs.Types.{U8, Lin, lin_one, lin_copy, Trn, trn_one, trn_copy, rpl_one, rpl_copy}
 use Rattle.roster.proofs.Sigs.{line_of_s, count_of_s, set_all_s, set_places_s, call_s, put_s, put_places_s, put_all_s, end_s, answer_s}
@@ -52,66 +52,66 @@ module _ {M : Type 1} {𝓤 : Ura M} (𝓛 : Logic 𝓤) (𝓣 : Tables 𝓤 �
   abbrev fourth : Code 𝓛 𝓣 E (Tab (whole Rpl) (whole Trn) (whole Trn) (sc_here (s_int w64))) (rest 21 (code.function).body) Ways
   fourth =
       begins 3 (tt, (tt, (tt, (tt, (tt, (tt, (tt, (tt, (tt, (tt, (tt, (tt, (tt, (tt, (tt, (tt, (tt, (tt, (tt, (tt, (tt, (tt, (tt, (tt, (tt, (tt, (tt, (tt, (tt, (tt, (tt, (tt, tt))))))))))))))))))))))))))))))))
-      (reshares 1 26 0 3 (mutA Rec (named 0) 0) gone tt refl refl refl ⟫
-      gathersS 1 26 27 3 (owedS Rec (named 0) 0 3 (lease κs.0 qs.0)) (ptrS Rec (imm_to erased Rec) 3) gone refl refl refl ⟫
+      (reshares 1 26 0 3 (mut_a Rec (named 0) 0) gone tt refl refl refl ⟫
+      gathers_s 1 26 27 3 (owed_s Rec (named 0) 0 3 (lease κs.0 qs.0)) (ptr_s Rec (imm_to erased Rec) 3) gone refl refl refl ⟫
       begins 4 (tt, ((tt, tt), (tt, (tt, (tt, (tt, (tt, (tt, (tt, (tt, (tt, (tt, (tt, (tt, (tt, (tt, (tt, (tt, (tt, (tt, (tt, (tt, (tt, (tt, (tt, (tt, (tt, (tt, (tt, (tt, (tt, (tt, tt))))))))))))))))))))))))))))))))
-      (relends 3 28 2 4 (mutA U8 (named 2) 2) gone tt refl refl refl ⟫
-      gathers 3 28 29 4 (owedA U8 (named 2) 2 4 (lease κs.1.1.0 qs.1.1.0)) (ptrA U8 4) gone refl refl refl ⟫
+      (relends 3 28 2 4 (mut_a U8 (named 2) 2) gone tt refl refl refl ⟫
+      gathers 3 28 29 4 (owed_a U8 (named 2) 2 4 (lease κs.1.1.0 qs.1.1.0)) (ptr_a U8 4) gone refl refl refl ⟫
       calls put_all_s put-all-def.name put_all_lem (record { pos = 27; ty = imm_to erased Rec; ref = λ x. x }, (record { pos = 29; ty = mut_to erased U8; ref = λ x. x }, (record { pos = 8; st = []; d = 0; at = λ x. x }, tt))) 9 (3 ∷ 4 ∷ []) (Spares-sslice 𝓛 Rec (imm_to erased Rec) 3, reads_sslice 𝓛 Rec (imm_to erased Rec) 3, refl, (as_is 𝓛 (mslice U8 (mut_to erased U8) 4), reads_mslice 𝓛 U8 (mut_to erased U8) 4, refl, (((keeps {𝓛 = 𝓛} trn_one trn_copy).out, refl), tt))) gone (tt, (tt, tt)) refl ⟫
-      ends 4 refl (backs 29 3 2 4 (leftA U8) (owedA U8 (named 2) 2 4 (lease κs.1.1.0 qs.1.1.0)) refl refl (forgets 4 dead refl
-      (free 27 (sharedA Rec 3) (ends 3 refl (unshares 1 0 3 (owedS Rec (named 0) 0 3 (lease κs.0 qs.0)) refl refl (forgets 3 dead refl
+      ends 4 refl (backs 29 3 2 4 (left_a U8) (owed_a U8 (named 2) 2 4 (lease κs.1.1.0 qs.1.1.0)) refl refl (forgets 4 dead refl
+      (free 27 (shared_a Rec 3) (ends 3 refl (unshares 1 0 3 (owed_s Rec (named 0) 0 3 (lease κs.0 qs.0)) refl refl (forgets 3 dead refl
       (begins 3 (tt, (tt, (tt, (tt, (tt, (tt, (tt, (tt, (tt, (tt, (tt, (tt, (tt, (tt, (tt, (tt, (tt, (tt, (tt, (tt, (tt, (tt, (tt, (tt, (tt, (tt, (tt, (tt, (tt, (tt, (tt, (tt, tt))))))))))))))))))))))))))))))))
-      (relends 3 30 2 3 (mutA U8 (named 2) 2) gone tt refl refl refl ⟫
-      gathers 3 30 31 3 (owedA U8 (named 2) 2 3 (lease κs.1.1.0 qs.1.1.0)) (ptrA U8 3) gone refl refl refl ⟫
+      (relends 3 30 2 3 (mut_a U8 (named 2) 2) gone tt refl refl refl ⟫
+      gathers 3 30 31 3 (owed_a U8 (named 2) 2 3 (lease κs.1.1.0 qs.1.1.0)) (ptr_a U8 3) gone refl refl refl ⟫
       calls end_s end-def.name end (record { pos = 31; ty = mut_to erased U8; ref = λ x. x }, (record { pos = 8; st = []; d = 0; at = λ x. x }, (v_at 9 (λ x. x), tt))) 0 (3 ∷ []) (as_is 𝓛 (mslice U8 (mut_to erased U8) 3), reads_mslice 𝓛 U8 (mut_to erased U8) 3, refl, (((keeps {𝓛 = 𝓛} trn_one trn_copy).out, refl), ((reads_Sc 𝓛 (s_int w64), refl), tt))) gone (tt, tt) refl ⟫
-      ends 3 refl (backs 31 3 2 3 (leftA U8) (owedA U8 (named 2) 2 3 (lease κs.1.1.0 qs.1.1.0)) refl refl (forgets 3 dead refl
+      ends 3 refl (backs 31 3 2 3 (left_a U8) (owed_a U8 (named 2) 2 3 (lease κs.1.1.0 qs.1.1.0)) refl refl (forgets 3 dead refl
       (free 4 (held Trn) (free 5 (held Lin) (free 6 (held Rpl) (free 7 (held Trn) (free 8 (held Trn) (free 9 (used (s_int w64)) (free 10 (used s_unit) (free 19 (used (s_int w64)) (returns)))))))))))))))))))))
 
   abbrev third : Code 𝓛 𝓣 E (Tab (whole Rpl) (any_gone (Me Trn)) (any_gone (Me Trn)) (sc_here (s_int w64))) (rest 13 (code.function).body) Ways
   third =
       begins 3 (tt, (tt, (tt, (tt, (tt, (tt, (tt, (tt, (tt, (tt, (tt, (tt, (tt, (tt, (tt, (tt, (tt, (tt, (tt, (tt, (tt, (tt, (tt, (tt, (tt, (tt, (tt, (tt, (tt, (tt, (tt, (tt, tt))))))))))))))))))))))))))))))))
-      (relends 3 20 2 3 (mutA U8 (named 2) 2) gone tt refl refl refl ⟫
-      gathers 3 20 21 3 (owedA U8 (named 2) 2 3 (lease κs.1.1.0 qs.1.1.0)) (ptrA U8 3) gone refl refl refl ⟫
+      (relends 3 20 2 3 (mut_a U8 (named 2) 2) gone tt refl refl refl ⟫
+      gathers 3 20 21 3 (owed_a U8 (named 2) 2 3 (lease κs.1.1.0 qs.1.1.0)) (ptr_a U8 3) gone refl refl refl ⟫
       calls put_s put-def.name put (record { pos = 21; ty = mut_to erased U8; ref = λ x. x }, (record { pos = 4; st = []; d = 0; at = λ x. x }, (record { pos = 6; st = []; d = 0; at = λ x. x }, tt))) 7 (3 ∷ []) (as_is 𝓛 (mslice U8 (mut_to erased U8) 3), reads_mslice 𝓛 U8 (mut_to erased U8) 3, refl, (((keeps {𝓛 = 𝓛} trn_one trn_copy).out, refl), (((keeps {𝓛 = 𝓛} rpl_one rpl_copy).out, refl), tt))) gone (tt, tt) refl ⟫
-      ends 3 refl (backs 21 3 2 3 (leftA U8) (owedA U8 (named 2) 2 3 (lease κs.1.1.0 qs.1.1.0)) refl refl (forgets 3 dead refl
+      ends 3 refl (backs 21 3 2 3 (left_a U8) (owed_a U8 (named 2) 2 3 (lease κs.1.1.0 qs.1.1.0)) refl refl (forgets 3 dead refl
       (begins 3 (tt, (tt, (tt, (tt, (tt, (tt, (tt, (tt, (tt, (tt, (tt, (tt, (tt, (tt, (tt, (tt, (tt, (tt, (tt, (tt, (tt, (tt, (tt, (tt, (tt, (tt, (tt, (tt, (tt, (tt, (tt, (tt, tt))))))))))))))))))))))))))))))))
-      (reshares 2 22 1 3 (mutA U16 (named 1) 1) gone tt refl refl refl ⟫
-      gathersS 2 22 23 3 (owedS U16 (named 1) 1 3 (lease κs.1.0 qs.1.0)) (ptrS U16 (imm_to erased U16) 3) gone refl refl refl ⟫
+      (reshares 2 22 1 3 (mut_a U16 (named 1) 1) gone tt refl refl refl ⟫
+      gathers_s 2 22 23 3 (owed_s U16 (named 1) 1 3 (lease κs.1.0 qs.1.0)) (ptr_s U16 (imm_to erased U16) 3) gone refl refl refl ⟫
       begins 4 (tt, (tt, ((tt, tt), (tt, (tt, (tt, (tt, (tt, (tt, (tt, (tt, (tt, (tt, (tt, (tt, (tt, (tt, (tt, (tt, (tt, (tt, (tt, (tt, (tt, (tt, (tt, (tt, (tt, (tt, (tt, (tt, (tt, tt))))))))))))))))))))))))))))))))
-      (relends 3 24 2 4 (mutA U8 (named 2) 2) gone tt refl refl refl ⟫
-      gathers 3 24 25 4 (owedA U8 (named 2) 2 4 (lease κs.1.1.0 qs.1.1.0)) (ptrA U8 4) gone refl refl refl ⟫
+      (relends 3 24 2 4 (mut_a U8 (named 2) 2) gone tt refl refl refl ⟫
+      gathers 3 24 25 4 (owed_a U8 (named 2) 2 4 (lease κs.1.1.0 qs.1.1.0)) (ptr_a U8 4) gone refl refl refl ⟫
       calls put_places_s put-places-def.name put-places (record { pos = 23; ty = imm_to erased U16; ref = λ x. x }, (record { pos = 25; ty = mut_to erased U8; ref = λ x. x }, (record { pos = 7; st = []; d = 0; at = λ x. x }, tt))) 8 (3 ∷ 4 ∷ []) (Spares-sslice 𝓛 U16 (imm_to erased U16) 3, reads_sslice 𝓛 U16 (imm_to erased U16) 3, refl, (as_is 𝓛 (mslice U8 (mut_to erased U8) 4), reads_mslice 𝓛 U8 (mut_to erased U8) 4, refl, (((keeps {𝓛 = 𝓛} trn_one trn_copy).out, refl), tt))) gone (tt, (tt, tt)) refl ⟫
-      ends 4 refl (backs 25 3 2 4 (leftA U8) (owedA U8 (named 2) 2 4 (lease κs.1.1.0 qs.1.1.0)) refl refl (forgets 4 dead refl
-      (free 23 (sharedA U16 3) (ends 3 refl (unshares 2 1 3 (owedS U16 (named 1) 1 3 (lease κs.1.0 qs.1.0)) refl refl (forgets 3 dead refl
+      ends 4 refl (backs 25 3 2 4 (left_a U8) (owed_a U8 (named 2) 2 4 (lease κs.1.1.0 qs.1.1.0)) refl refl (forgets 4 dead refl
+      (free 23 (shared_a U16 3) (ends 3 refl (unshares 2 1 3 (owed_s U16 (named 1) 1 3 (lease κs.1.0 qs.1.0)) refl refl (forgets 3 dead refl
       (fourth)))))))))))))
 
   abbrev second : Code 𝓛 𝓣 E (Tab (any_gone (Me Rpl)) (any_gone (Me Trn)) (any_gone (Me Trn)) (any_gone (ty_int w64))) (rest 7 (code.function).body) Ways
   second =
       begins 3 (tt, (tt, (tt, (tt, (tt, (tt, (tt, (tt, (tt, (tt, (tt, (tt, (tt, (tt, (tt, (tt, (tt, (tt, (tt, (tt, (tt, (tt, (tt, (tt, (tt, (tt, (tt, (tt, (tt, (tt, (tt, (tt, tt))))))))))))))))))))))))))))))))
-      (relends 1 15 0 3 (mutA Rec (named 0) 0) gone tt refl refl refl ⟫
-      gathers 1 15 16 3 (owedA Rec (named 0) 0 3 (lease κs.0 qs.0)) (ptrA Rec 3) gone refl refl refl ⟫
+      (relends 1 15 0 3 (mut_a Rec (named 0) 0) gone tt refl refl refl ⟫
+      gathers 1 15 16 3 (owed_a Rec (named 0) 0 3 (lease κs.0 qs.0)) (ptr_a Rec 3) gone refl refl refl ⟫
       begins 4 (tt, ((tt, tt), (tt, (tt, (tt, (tt, (tt, (tt, (tt, (tt, (tt, (tt, (tt, (tt, (tt, (tt, (tt, (tt, (tt, (tt, (tt, (tt, (tt, (tt, (tt, (tt, (tt, (tt, (tt, (tt, (tt, (tt, tt))))))))))))))))))))))))))))))))
-      (relends 2 17 1 4 (mutA U16 (named 1) 1) gone tt refl refl refl ⟫
-      gathers 2 17 18 4 (owedA U16 (named 1) 1 4 (lease κs.1.0 qs.1.0)) (ptrA U16 4) gone refl refl refl ⟫
+      (relends 2 17 1 4 (mut_a U16 (named 1) 1) gone tt refl refl refl ⟫
+      gathers 2 17 18 4 (owed_a U16 (named 1) 1 4 (lease κs.1.0 qs.1.0)) (ptr_a U16 4) gone refl refl refl ⟫
       calls count_of_s count-of-def.name count_of (record { pos = 4; st = []; d = 0; at = λ x. x }, tt) 19 [] (((keeps {𝓛 = 𝓛} trn_one trn_copy).out, refl), tt) gone tt refl ⟫
       calls call_s call-def.name call (record { pos = 16; ty = mut_to erased Rec; ref = λ x. x }, (record { pos = 18; ty = mut_to erased U16; ref = λ x. x }, (v_at 19 (λ x. x), (record { pos = 5; st = []; d = 0; at = λ x. x }, tt)))) 6 (3 ∷ 4 ∷ []) (as_is 𝓛 (mslice Rec (mut_to erased Rec) 3), reads_mslice 𝓛 Rec (mut_to erased Rec) 3, refl, (as_is 𝓛 (mslice U16 (mut_to erased U16) 4), reads_mslice 𝓛 U16 (mut_to erased U16) 4, refl, ((reads_Sc 𝓛 (s_int w64), refl), (((keeps {𝓛 = 𝓛} lin_one lin_copy).out, refl), tt)))) gone (tt, (tt, tt)) refl ⟫
-      ends 4 refl (backs 18 2 1 4 (leftA U16) (owedA U16 (named 1) 1 4 (lease κs.1.0 qs.1.0)) refl refl (forgets 4 dead refl
-      (ends 3 refl (backs 16 1 0 3 (leftA Rec) (owedA Rec (named 0) 0 3 (lease κs.0 qs.0)) refl refl (forgets 3 dead refl
+      ends 4 refl (backs 18 2 1 4 (left_a U16) (owed_a U16 (named 1) 1 4 (lease κs.1.0 qs.1.0)) refl refl (forgets 4 dead refl
+      (ends 3 refl (backs 16 1 0 3 (left_a Rec) (owed_a Rec (named 0) 0 3 (lease κs.0 qs.0)) refl refl (forgets 3 dead refl
       (third))))))))
 
   abbrev walk : Walked answer_s xs (code.function).body 𝓛 𝓣 κs qs bs
   walk =
       calls line_of_s line-of-def.name Line-of (record { pos = 4; st = []; d = 0; at = λ x. x }, tt) 5 [] (((keeps {𝓛 = 𝓛} trn_one trn_copy).out, refl), tt) gone tt refl ⟫
       begins 3 (tt, (tt, (tt, (tt, (tt, (tt, (tt, (tt, (tt, (tt, (tt, (tt, (tt, (tt, (tt, (tt, (tt, (tt, (tt, (tt, (tt, (tt, (tt, (tt, (tt, (tt, (tt, (tt, (tt, (tt, (tt, (tt, tt))))))))))))))))))))))))))))))))
-      (relends 1 11 0 3 (mutA Rec (named 0) 0) gone tt refl refl refl ⟫
-      gathers 1 11 12 3 (owedA Rec (named 0) 0 3 (lease κs.0 qs.0)) (ptrA Rec 3) gone refl refl refl ⟫
+      (relends 1 11 0 3 (mut_a Rec (named 0) 0) gone tt refl refl refl ⟫
+      gathers 1 11 12 3 (owed_a Rec (named 0) 0 3 (lease κs.0 qs.0)) (ptr_a Rec 3) gone refl refl refl ⟫
       calls set_all_s set-all-def.name set_all (record { pos = 12; ty = mut_to erased Rec; ref = λ x. x }, (record { pos = 5; st = []; d = 0; at = λ x. x }, tt)) 10 (3 ∷ []) (as_is 𝓛 (mslice Rec (mut_to erased Rec) 3), reads_mslice 𝓛 Rec (mut_to erased Rec) 3, refl, (((keeps {𝓛 = 𝓛} lin_one lin_copy).out, refl), tt)) gone (tt, tt) refl ⟫
-      ends 3 refl (backs 12 1 0 3 (leftA Rec) (owedA Rec (named 0) 0 3 (lease κs.0 qs.0)) refl refl (forgets 3 dead refl
+      ends 3 refl (backs 12 1 0 3 (left_a Rec) (owed_a Rec (named 0) 0 3 (lease κs.0 qs.0)) refl refl (forgets 3 dead refl
       (begins 3 (tt, (tt, (tt, (tt, (tt, (tt, (tt, (tt, (tt, (tt, (tt, (tt, (tt, (tt, (tt, (tt, (tt, (tt, (tt, (tt, (tt, (tt, (tt, (tt, (tt, (tt, (tt, (tt, (tt, (tt, (tt, (tt, tt))))))))))))))))))))))))))))))))
-      (relends 2 13 1 3 (mutA U16 (named 1) 1) gone tt refl refl refl ⟫
-      gathers 2 13 14 3 (owedA U16 (named 1) 1 3 (lease κs.1.0 qs.1.0)) (ptrA U16 3) gone refl refl refl ⟫
+      (relends 2 13 1 3 (mut_a U16 (named 1) 1) gone tt refl refl refl ⟫
+      gathers 2 13 14 3 (owed_a U16 (named 1) 1 3 (lease κs.1.0 qs.1.0)) (ptr_a U16 3) gone refl refl refl ⟫
       calls set_places_s set-places-def.name set-places (record { pos = 14; ty = mut_to erased U16; ref = λ x. x }, (record { pos = 5; st = []; d = 0; at = λ x. x }, tt)) 10 (3 ∷ []) (as_is 𝓛 (mslice U16 (mut_to erased U16) 3), reads_mslice 𝓛 U16 (mut_to erased U16) 3, refl, (((keeps {𝓛 = 𝓛} lin_one lin_copy).out, refl), tt)) (used s_unit) (tt, tt) refl ⟫
-      ends 3 refl (backs 14 2 1 3 (leftA U16) (owedA U16 (named 1) 1 3 (lease κs.1.0 qs.1.0)) refl refl (forgets 3 dead refl
+      ends 3 refl (backs 14 2 1 3 (left_a U16) (owed_a U16 (named 1) 1 3 (lease κs.1.0 qs.1.0)) refl refl (forgets 3 dead refl
       (second))))))))
 
   asked : Asked answer_s xs (code.function).body κs qs bs walk

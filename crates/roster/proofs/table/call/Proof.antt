@@ -4,7 +4,7 @@ use types.Logic.{Logic}
 use contract.Running.{tables_of}
 use mir.Syntax.{w32}
 use denote.Slice.{slice_ty}
-use Rattle.rollcall.proofs.Kit.{Code, Me, Cx, Outs, Env, EnvOf, rows_from, leases, ty_r, tys_p, Δret, some, with_next, any_gone, whole, sc_here, rest, ℕ, refl, List, [], ◌∷◌, ◌++◌, Ura, Ty, named, erased, w64, ty_int, ty_bool, Tables, Lfts, Shares, now, Over, World, fix_len, v_at, Spares-sslice, mslice, reads_mslice, reads_sslice, reads_Sc, as_is, s_int, s_bool, lease, dead, Rec, U16, Sgt, sgt_one, sgt_copy, Knows, gone, used, held, mut_to, imm_to, n64, flag, mutA, owedA, leftA, ptrA, owedS, ptrS, sharedA, keeps, ◌⟫◌, meet, free, branch, begins, relends, gathers, reshares, gathersS, unshares, ends, backs, forgets, calls, num, lit, less, skips, returns, Walked, Asked, homes, known, by-walk}
+use Rattle.rollcall.proofs.Kit.{Code, Me, Cx, Outs, Env, EnvOf, rows_from, leases, ty_r, tys_p, Δret, some, with_next, any_gone, whole, sc_here, rest, ℕ, refl, List, [], ◌∷◌, ◌++◌, Ura, Ty, named, erased, w64, ty_int, ty_bool, Tables, Lfts, Shares, now, Over, World, fix_len, v_at, Spares-sslice, mslice, reads_mslice, reads_sslice, reads_Sc, as_is, s_int, s_bool, lease, dead, Rec, U16, Sgt, sgt_one, sgt_copy, Knows, gone, used, held, mut_to, imm_to, n64, flag, mut_a, owed_a, left_a, ptr_a, owed_s, ptr_s, shared_a, keeps, ◌⟫◌, meet, free, branch, begins, relends, gathers, reshares, gathers_s, unshares, ends, backs, forgets, calls, num, lit, less, skips, returns, Walked, Asked, homes, known, by-walk}
 use Rattle.walks.proofs.Total.{arm}
 use Rattle.rollcall.proofs.Types.{Rpl}
 use Rattle.rollcall.proofs.Sigs.{clear_s, find_s, remove_s, add_s}
@@ -52,56 +52,56 @@ module _ {M : Type 1} {𝓤 : Ura M} (𝓛 : Logic 𝓤) (𝓣 : Tables 𝓤 �
   abbrev clears : Code 𝓛 𝓣 E Tab (arm (rest 4 (code.function).body)) (with_next (some Tab) Ways)
   clears =
       begins 2 (tt, (tt, (tt, (tt, (tt, (tt, (tt, (tt, (tt, (tt, (tt, (tt, (tt, (tt, (tt, (tt, (tt, (tt, (tt, (tt, (tt, (tt, (tt, (tt, (tt, (tt, tt))))))))))))))))))))))))))
-      (relends 1 7 0 2 (mutA Rec (named 0) 0) gone tt refl refl refl ⟫
-      gathers 1 7 8 2 (owedA Rec (named 0) 0 2 (lease κs.0 qs.0)) (ptrA Rec 2) gone refl refl refl ⟫
+      (relends 1 7 0 2 (mut_a Rec (named 0) 0) gone tt refl refl refl ⟫
+      gathers 1 7 8 2 (owed_a Rec (named 0) 0 2 (lease κs.0 qs.0)) (ptr_a Rec 2) gone refl refl refl ⟫
       begins 3 (tt, ((tt, tt), (tt, (tt, (tt, (tt, (tt, (tt, (tt, (tt, (tt, (tt, (tt, (tt, (tt, (tt, (tt, (tt, (tt, (tt, (tt, (tt, (tt, (tt, (tt, (tt, tt))))))))))))))))))))))))))
-      (relends 2 9 1 3 (mutA U16 (named 1) 1) gone tt refl refl refl ⟫
-      gathers 2 9 10 3 (owedA U16 (named 1) 1 3 (lease κs.1.0 qs.1.0)) (ptrA U16 3) gone refl refl refl ⟫
+      (relends 2 9 1 3 (mut_a U16 (named 1) 1) gone tt refl refl refl ⟫
+      gathers 2 9 10 3 (owed_a U16 (named 1) 1 3 (lease κs.1.0 qs.1.0)) (ptr_a U16 3) gone refl refl refl ⟫
       calls clear_s clear-def.name clear (record { pos = 8; ty = mut_to erased Rec; ref = λ x. x }, (record { pos = 10; ty = mut_to erased U16; ref = λ x. x }, (v_at 3 (λ x. x), tt))) 0 (2 ∷ 3 ∷ []) (as_is 𝓛 (mslice Rec (mut_to erased Rec) 2), reads_mslice 𝓛 Rec (mut_to erased Rec) 2, refl, (as_is 𝓛 (mslice U16 (mut_to erased U16) 3), reads_mslice 𝓛 U16 (mut_to erased U16) 3, refl, ((reads_Sc 𝓛 (s_int w64), refl), tt))) gone (tt, (tt, tt)) refl ⟫
-      ends 3 refl (backs 10 2 1 3 (leftA U16) (owedA U16 (named 1) 1 3 (lease κs.1.0 qs.1.0)) refl refl (forgets 3 dead refl
-      (ends 2 refl (backs 8 1 0 2 (leftA Rec) (owedA Rec (named 0) 0 2 (lease κs.0 qs.0)) refl refl (forgets 2 dead refl
+      ends 3 refl (backs 10 2 1 3 (left_a U16) (owed_a U16 (named 1) 1 3 (lease κs.1.0 qs.1.0)) refl refl (forgets 3 dead refl
+      (ends 2 refl (backs 8 1 0 2 (left_a Rec) (owed_a Rec (named 0) 0 2 (lease κs.0 qs.0)) refl refl (forgets 2 dead refl
       (free 3 (used (s_int w64)) (free 4 (held Lin) (free 5 (used (s_int w64)) (free 6 (used s_bool) returns)))))))))))
 
   abbrev finds : Code 𝓛 𝓣 E Tab (arm (rest 6 (code.function).body)) (with_next (some Tab) Ways)
   finds =
       begins 2 (tt, (tt, (tt, (tt, (tt, (tt, (tt, (tt, (tt, (tt, (tt, (tt, (tt, (tt, (tt, (tt, (tt, (tt, (tt, (tt, (tt, (tt, (tt, (tt, (tt, (tt, tt))))))))))))))))))))))))))
-      (reshares 1 11 0 2 (mutA Rec (named 0) 0) gone tt refl refl refl ⟫
-      gathersS 1 11 12 2 (owedS Rec (named 0) 0 2 (lease κs.0 qs.0)) (ptrS Rec (imm_to erased Rec) 2) gone refl refl refl ⟫
+      (reshares 1 11 0 2 (mut_a Rec (named 0) 0) gone tt refl refl refl ⟫
+      gathers_s 1 11 12 2 (owed_s Rec (named 0) 0 2 (lease κs.0 qs.0)) (ptr_s Rec (imm_to erased Rec) 2) gone refl refl refl ⟫
       begins 3 (tt, ((tt, tt), (tt, (tt, (tt, (tt, (tt, (tt, (tt, (tt, (tt, (tt, (tt, (tt, (tt, (tt, (tt, (tt, (tt, (tt, (tt, (tt, (tt, (tt, (tt, (tt, tt))))))))))))))))))))))))))
-      (reshares 2 13 1 3 (mutA U16 (named 1) 1) gone tt refl refl refl ⟫
-      gathersS 2 13 14 3 (owedS U16 (named 1) 1 3 (lease κs.1.0 qs.1.0)) (ptrS U16 (imm_to erased U16) 3) gone refl refl refl ⟫
+      (reshares 2 13 1 3 (mut_a U16 (named 1) 1) gone tt refl refl refl ⟫
+      gathers_s 2 13 14 3 (owed_s U16 (named 1) 1 3 (lease κs.1.0 qs.1.0)) (ptr_s U16 (imm_to erased U16) 3) gone refl refl refl ⟫
       calls address_of_s address-of-def.name address-of (record { pos = 4; st = []; d = 0; at = λ x. x }, tt) 15 [] (((keeps {𝓛 = 𝓛} lin_one lin_copy).out, refl), tt) gone tt refl ⟫
       calls find_s find-def.name find (record { pos = 12; ty = imm_to erased Rec; ref = λ x. x }, (record { pos = 14; ty = imm_to erased U16; ref = λ x. x }, (v_at 3 (λ x. x), (v_at 15 (λ x. x), tt)))) 0 (2 ∷ 3 ∷ []) (Spares-sslice 𝓛 Rec (imm_to erased Rec) 2, reads_sslice 𝓛 Rec (imm_to erased Rec) 2, refl, (Spares-sslice 𝓛 U16 (imm_to erased U16) 3, reads_sslice 𝓛 U16 (imm_to erased U16) 3, refl, ((reads_Sc 𝓛 (s_int w64), refl), ((reads_Sc 𝓛 (s_int w32), refl), tt)))) gone (tt, (tt, tt)) refl ⟫
-      free 14 (sharedA U16 3) (ends 3 refl (unshares 2 1 3 (owedS U16 (named 1) 1 3 (lease κs.1.0 qs.1.0)) refl refl (forgets 3 dead refl
-      (free 12 (sharedA Rec 2) (ends 2 refl (unshares 1 0 2 (owedS Rec (named 0) 0 2 (lease κs.0 qs.0)) refl refl (forgets 2 dead refl
+      free 14 (shared_a U16 3) (ends 3 refl (unshares 2 1 3 (owed_s U16 (named 1) 1 3 (lease κs.1.0 qs.1.0)) refl refl (forgets 3 dead refl
+      (free 12 (shared_a Rec 2) (ends 2 refl (unshares 1 0 2 (owed_s Rec (named 0) 0 2 (lease κs.0 qs.0)) refl refl (forgets 2 dead refl
       (free 3 (used (s_int w64)) (free 4 (held Lin) (free 5 (used (s_int w64)) (free 6 (used s_bool) (free 15 (used (s_int w32)) returns))))))))))))))
 
   abbrev removes : Code 𝓛 𝓣 E Tab (arm (rest 8 (code.function).body)) (with_next (some Tab) Ways)
   removes =
       begins 2 (tt, (tt, (tt, (tt, (tt, (tt, (tt, (tt, (tt, (tt, (tt, (tt, (tt, (tt, (tt, (tt, (tt, (tt, (tt, (tt, (tt, (tt, (tt, (tt, (tt, (tt, tt))))))))))))))))))))))))))
-      (relends 1 16 0 2 (mutA Rec (named 0) 0) gone tt refl refl refl ⟫
-      gathers 1 16 17 2 (owedA Rec (named 0) 0 2 (lease κs.0 qs.0)) (ptrA Rec 2) gone refl refl refl ⟫
+      (relends 1 16 0 2 (mut_a Rec (named 0) 0) gone tt refl refl refl ⟫
+      gathers 1 16 17 2 (owed_a Rec (named 0) 0 2 (lease κs.0 qs.0)) (ptr_a Rec 2) gone refl refl refl ⟫
       begins 3 (tt, ((tt, tt), (tt, (tt, (tt, (tt, (tt, (tt, (tt, (tt, (tt, (tt, (tt, (tt, (tt, (tt, (tt, (tt, (tt, (tt, (tt, (tt, (tt, (tt, (tt, (tt, tt))))))))))))))))))))))))))
-      (relends 2 18 1 3 (mutA U16 (named 1) 1) gone tt refl refl refl ⟫
-      gathers 2 18 19 3 (owedA U16 (named 1) 1 3 (lease κs.1.0 qs.1.0)) (ptrA U16 3) gone refl refl refl ⟫
+      (relends 2 18 1 3 (mut_a U16 (named 1) 1) gone tt refl refl refl ⟫
+      gathers 2 18 19 3 (owed_a U16 (named 1) 1 3 (lease κs.1.0 qs.1.0)) (ptr_a U16 3) gone refl refl refl ⟫
       calls address_of_s address-of-def.name address-of (record { pos = 4; st = []; d = 0; at = λ x. x }, tt) 20 [] (((keeps {𝓛 = 𝓛} lin_one lin_copy).out, refl), tt) gone tt refl ⟫
       calls remove_s remove-def.name remove (record { pos = 17; ty = mut_to erased Rec; ref = λ x. x }, (record { pos = 19; ty = mut_to erased U16; ref = λ x. x }, (v_at 3 (λ x. x), (v_at 20 (λ x. x), tt)))) 0 (2 ∷ 3 ∷ []) (as_is 𝓛 (mslice Rec (mut_to erased Rec) 2), reads_mslice 𝓛 Rec (mut_to erased Rec) 2, refl, (as_is 𝓛 (mslice U16 (mut_to erased U16) 3), reads_mslice 𝓛 U16 (mut_to erased U16) 3, refl, ((reads_Sc 𝓛 (s_int w64), refl), ((reads_Sc 𝓛 (s_int w32), refl), tt)))) gone (tt, (tt, tt)) refl ⟫
-      ends 3 refl (backs 19 2 1 3 (leftA U16) (owedA U16 (named 1) 1 3 (lease κs.1.0 qs.1.0)) refl refl (forgets 3 dead refl
-      (ends 2 refl (backs 17 1 0 2 (leftA Rec) (owedA Rec (named 0) 0 2 (lease κs.0 qs.0)) refl refl (forgets 2 dead refl
+      ends 3 refl (backs 19 2 1 3 (left_a U16) (owed_a U16 (named 1) 1 3 (lease κs.1.0 qs.1.0)) refl refl (forgets 3 dead refl
+      (ends 2 refl (backs 17 1 0 2 (left_a Rec) (owed_a Rec (named 0) 0 2 (lease κs.0 qs.0)) refl refl (forgets 2 dead refl
       (free 3 (used (s_int w64)) (free 4 (held Lin) (free 5 (used (s_int w64)) (free 6 (used s_bool) (free 20 (used (s_int w32)) returns))))))))))))
 
   abbrev adds : Code 𝓛 𝓣 E Tab (rest 9 (code.function).body) Ways
   adds =
       begins 2 (tt, (tt, (tt, (tt, (tt, (tt, (tt, (tt, (tt, (tt, (tt, (tt, (tt, (tt, (tt, (tt, (tt, (tt, (tt, (tt, (tt, (tt, (tt, (tt, (tt, (tt, tt))))))))))))))))))))))))))
-      (relends 1 21 0 2 (mutA Rec (named 0) 0) gone tt refl refl refl ⟫
-      gathers 1 21 22 2 (owedA Rec (named 0) 0 2 (lease κs.0 qs.0)) (ptrA Rec 2) gone refl refl refl ⟫
+      (relends 1 21 0 2 (mut_a Rec (named 0) 0) gone tt refl refl refl ⟫
+      gathers 1 21 22 2 (owed_a Rec (named 0) 0 2 (lease κs.0 qs.0)) (ptr_a Rec 2) gone refl refl refl ⟫
       begins 3 (tt, ((tt, tt), (tt, (tt, (tt, (tt, (tt, (tt, (tt, (tt, (tt, (tt, (tt, (tt, (tt, (tt, (tt, (tt, (tt, (tt, (tt, (tt, (tt, (tt, (tt, (tt, tt))))))))))))))))))))))))))
-      (relends 2 23 1 3 (mutA U16 (named 1) 1) gone tt refl refl refl ⟫
-      gathers 2 23 24 3 (owedA U16 (named 1) 1 3 (lease κs.1.0 qs.1.0)) (ptrA U16 3) gone refl refl refl ⟫
+      (relends 2 23 1 3 (mut_a U16 (named 1) 1) gone tt refl refl refl ⟫
+      gathers 2 23 24 3 (owed_a U16 (named 1) 1 3 (lease κs.1.0 qs.1.0)) (ptr_a U16 3) gone refl refl refl ⟫
       calls sighting_of_s sighting-of-def.name sighting-of (record { pos = 4; st = []; d = 0; at = λ x. x }, tt) 25 [] (((keeps {𝓛 = 𝓛} lin_one lin_copy).out, refl), tt) gone tt refl ⟫
       calls add_s add_def.name add (record { pos = 22; ty = mut_to erased Rec; ref = λ x. x }, (record { pos = 24; ty = mut_to erased U16; ref = λ x. x }, (v_at 3 (λ x. x), (record { pos = 25; st = []; d = 0; at = λ x. x }, tt)))) 0 (2 ∷ 3 ∷ []) (as_is 𝓛 (mslice Rec (mut_to erased Rec) 2), reads_mslice 𝓛 Rec (mut_to erased Rec) 2, refl, (as_is 𝓛 (mslice U16 (mut_to erased U16) 3), reads_mslice 𝓛 U16 (mut_to erased U16) 3, refl, ((reads_Sc 𝓛 (s_int w64), refl), (((keeps {𝓛 = 𝓛} sgt_one sgt_copy).out, refl), tt)))) gone (tt, (tt, tt)) refl ⟫
-      ends 3 refl (backs 24 2 1 3 (leftA U16) (owedA U16 (named 1) 1 3 (lease κs.1.0 qs.1.0)) refl refl (forgets 3 dead refl
-      (ends 2 refl (backs 22 1 0 2 (leftA Rec) (owedA Rec (named 0) 0 2 (lease κs.0 qs.0)) refl refl (forgets 2 dead refl
+      ends 3 refl (backs 24 2 1 3 (left_a U16) (owed_a U16 (named 1) 1 3 (lease κs.1.0 qs.1.0)) refl refl (forgets 3 dead refl
+      (ends 2 refl (backs 22 1 0 2 (left_a Rec) (owed_a Rec (named 0) 0 2 (lease κs.0 qs.0)) refl refl (forgets 2 dead refl
       (free 3 (used (s_int w64)) (free 4 (held Lin) (free 5 (used (s_int w64)) (free 6 (used s_bool) (free 25 (held Sgt) returns))))))))))))
 
   abbrev walk : Walked call_s xs (code.function).body 𝓛 𝓣 κs qs bs

@@ -6,7 +6,7 @@ use native.Mathlib.Omega.{arith}
 use borrow.Rule.Slice.Mut.{set_vals}
 use denote.Slice.{slice_ty}
 use Rattle.rollcall_table.specs.Table.{blank}
-use Rattle.rollcall.proofs.Kit.{Code, Me, Cx, Row, Outs, Env, EnvOf, rows_from, leases, ty_r, tys_p, Δret, some, with_next, in_block₀, in_loop₀, any_gone, whole, rest, ℕ, ◌+◌, ◌-◌, ◌<◌, ◌≤◌, ◌≡◌, refl, ap, ◌∙◌, List, [], ◌∷◌, ◌++◌, length, Ura, Ty, named, erased, w64, ty_int, ty_bool, ty_ptr, Tables, Lfts, Shares, now, scaled_Fits, ltb-true, ltb-false, Over, World, fix_len, v_at, mslice, reads_mslice, sslice, reads_Sc, as_is, s_int, s_bool, s_ptr, sc_here, lease, dead, Rec, rec_size, rec_one, rec_copy, Knows, gone, used, held, mut_to, imm_to, n64, flag, immS, mutA, owedA, leftA, ptrA, keeps, ◌⟫◌, meet, last, free, branch, blocks, loops, leaves, begins, relends, gathers, ends, backs, forgets, calls, num, lit, count, sets, less, plus, times, points, loads, copies, skips, returns, Walked, Asked, homes, known, by-walk}
+use Rattle.rollcall.proofs.Kit.{Code, Me, Cx, Row, Outs, Env, EnvOf, rows_from, leases, ty_r, tys_p, Δret, some, with_next, in_block₀, in_loop₀, any_gone, whole, rest, ℕ, ◌+◌, ◌-◌, ◌<◌, ◌≤◌, ◌≡◌, refl, ap, ◌∙◌, List, [], ◌∷◌, ◌++◌, length, Ura, Ty, named, erased, w64, ty_int, ty_bool, ty_ptr, Tables, Lfts, Shares, now, scaled_Fits, ltb-true, ltb-false, Over, World, fix_len, v_at, mslice, reads_mslice, sslice, reads_Sc, as_is, s_int, s_bool, s_ptr, sc_here, lease, dead, Rec, rec_size, rec_one, rec_copy, Knows, gone, used, held, mut_to, imm_to, n64, flag, imm_s, mut_a, owed_a, left_a, ptr_a, keeps, ◌⟫◌, meet, last, free, branch, blocks, loops, leaves, begins, relends, gathers, ends, backs, forgets, calls, num, lit, count, sets, less, plus, times, points, loads, copies, skips, returns, Walked, Asked, homes, known, by-walk}
 use Rattle.roster.proofs.Types.{U8, Trn, trn_one, trn_copy}
 use Rattle.roster.proofs.Sigs.{shown_s, open_list_s, put_record_s, put_all_s}
 use Rattle.roster.proofs.answers.shown.Symbol as shown-def
@@ -46,10 +46,10 @@ module _ {M : Type 1} {𝓤 : Ura M} (𝓛 : Logic 𝓤) (𝓣 : Tables 𝓤 �
   abbrev second : Code 𝓛 𝓣 E (Tab (whole Rec) (sc_here s_bool) (sc_here (s_int w64)) (sc_here s_ptr) (whole Rec)) (rest 6 mir'.turn-1) Ways
   second =
       begins 2 (tt, (tt, (tt, (tt, (tt, (tt, (tt, (tt, (tt, (tt, (tt, (tt, (tt, (tt, (tt, (tt, (tt, tt)))))))))))))))))
-      (relends 2 15 1 2 (mutA U8 (named 1) 1) gone tt refl refl refl ⟫
-      gathers 2 15 16 2 (owedA U8 (named 1) 1 2 (lease κs.1.0 qs.1.0)) (ptrA U8 2) gone refl refl refl ⟫
+      (relends 2 15 1 2 (mut_a U8 (named 1) 1) gone tt refl refl refl ⟫
+      gathers 2 15 16 2 (owed_a U8 (named 1) 1 2 (lease κs.1.0 qs.1.0)) (ptr_a U8 2) gone refl refl refl ⟫
       calls put_record_s put-record-def.name put_record (record { pos = 16; ty = mut_to erased U8; ref = λ x. x }, (v_at 5 (λ x. x), (v_at 6 (λ x. x), (record { pos = 7; st = []; d = 0; at = λ x. x }, tt)))) 5 (2 ∷ []) (as_is 𝓛 (mslice U8 (mut_to erased U8) 2), reads_mslice 𝓛 U8 (mut_to erased U8) 2, refl, ((reads_Sc 𝓛 (s_int w64), refl), ((reads_Sc 𝓛 (s_int w64), refl), (((keeps {𝓛 = 𝓛} rec_one rec_copy).out, refl), tt)))) (used (s_int w64)) (tt, tt) refl ⟫
-      ends 2 refl (backs 16 2 1 2 (leftA U8) (owedA U8 (named 1) 1 2 (lease κs.1.0 qs.1.0)) refl refl (forgets 2 dead refl
+      ends 2 refl (backs 16 2 1 2 (left_a U8) (owed_a U8 (named 1) 1 2 (lease κs.1.0 qs.1.0)) refl refl (forgets 2 dead refl
       (free 7 (held Rec) (free 11 (used s_bool) (free 12 (used (s_int w64)) (free 13 (used s_ptr) (free 14 (held Rec)
       (last (plus 6 (num 6 n64 refl) (lit 1 tt) (used (s_int w64)) refl))))))))))
 
@@ -59,7 +59,7 @@ module _ {M : Type 1} {𝓤 : Ura M} (𝓛 : Logic 𝓤) (𝓣 : Tables 𝓤 �
       less 11 (num 6 n64 refl) (num 4 n64 refl) gone refl ⟫
       meet (branch 11 flag refl skips (free 11 (used s_bool) leaves))
       (times 12 (num 6 n64 refl) (lit rec_size tt) gone refl ⟫
-      points 13 1 (immS Rec (named 0) 0) (num 12 n64 refl) refl gone refl ⟫
+      points 13 1 (imm_s Rec (named 0) 0) (num 12 n64 refl) refl gone refl ⟫
       loads rec_one rec_copy 1 13 14 0 (imm_to (named 0) Rec) rec_size (λ u. u.1.1.1.1.1.1.0) blank (λ x. x) (λ x. x) refl (as_is 𝓛 (sslice Rec (imm_to (named 0) Rec) 0)) (as_is 𝓛 (sc_here s_ptr)) gone tt refl refl ⟫
       copies rec_one rec_copy 14 7 (keeps rec_one rec_copy) gone refl refl ⟫
       second)
@@ -67,13 +67,13 @@ module _ {M : Type 1} {𝓤 : Ura M} (𝓛 : Logic 𝓤) (𝓣 : Tables 𝓤 �
   -- the loop is at the buffer, what is taken of it, and i
   abbrev walk : Walked put_all_s xs (code.function).body 𝓛 𝓣 κs qs bs
   walk =
-      sets 8 (count 1 (immS Rec (named 0) 0) refl) gone refl ⟫
+      sets 8 (count 1 (imm_s Rec (named 0) 0) refl) gone refl ⟫
       calls shown_s shown-def.name shown (record { pos = 3; st = []; d = 0; at = λ x. x }, (v_at 8 (λ x. x), tt)) 4 [] (((keeps {𝓛 = 𝓛} trn_one trn_copy).out, refl), ((reads_Sc 𝓛 (s_int w64), refl), tt)) gone tt refl ⟫
       begins 2 (tt, (tt, (tt, (tt, (tt, (tt, (tt, (tt, (tt, (tt, (tt, (tt, (tt, (tt, (tt, (tt, (tt, tt)))))))))))))))))
-      (relends 2 9 1 2 (mutA U8 (named 1) 1) gone tt refl refl refl ⟫
-      gathers 2 9 10 2 (owedA U8 (named 1) 1 2 (lease κs.1.0 qs.1.0)) (ptrA U8 2) gone refl refl refl ⟫
+      (relends 2 9 1 2 (mut_a U8 (named 1) 1) gone tt refl refl refl ⟫
+      gathers 2 9 10 2 (owed_a U8 (named 1) 1 2 (lease κs.1.0 qs.1.0)) (ptr_a U8 2) gone refl refl refl ⟫
       calls open_list_s open-list-def.name open-list (record { pos = 10; ty = mut_to erased U8; ref = λ x. x }, (record { pos = 3; st = []; d = 0; at = λ x. x }, (v_at 4 (λ x. x), tt))) 5 (2 ∷ []) (as_is 𝓛 (mslice U8 (mut_to erased U8) 2), reads_mslice 𝓛 U8 (mut_to erased U8) 2, refl, (((keeps {𝓛 = 𝓛} trn_one trn_copy).out, refl), ((reads_Sc 𝓛 (s_int w64), refl), tt))) gone (tt, tt) refl ⟫
-      ends 2 refl (backs 10 2 1 2 (leftA U8) (owedA U8 (named 1) 1 2 (lease κs.1.0 qs.1.0)) refl refl (forgets 2 dead refl
+      ends 2 refl (backs 10 2 1 2 (left_a U8) (owed_a U8 (named 1) 1 2 (lease κs.1.0 qs.1.0)) refl refl (forgets 2 dead refl
       (sets 6 (lit 0 tt) gone refl ⟫
       meet
       (blocks (loops {Vs = List ℕ × (ℕ × ℕ)} (λ v u. (u.0, (u.1.0, (set_vals v.0 u.1.1.0, (u.1.1.1.0, (u.1.1.1.1.0, (v.1.0, (v.1.1, u.1.1.1.1.1.1.1)))))))) (λ u v. (length v.0 ≡ length u.1.1.0.now) × (v.1.1 ≤ u.1.1.1.1.0)) (λ u v. u.1.1.1.1.0 - v.1.1) turn))

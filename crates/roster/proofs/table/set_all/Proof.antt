@@ -6,7 +6,7 @@ use native.Mathlib.Omega.{arith}
 use borrow.Rule.Slice.Mut.{set_vals}
 use Rattle.rollcall_table.specs.declared.Record.{Record}
 use Rattle.rollcall_table.specs.Table.{blank}
-use Rattle.rollcall.proofs.Kit.{ℕ, ◌+◌, ◌-◌, ◌<◌, ◌≤◌, ◌≡◌, refl, ap, ◌∙◌, subst, List, [], ◌∷◌, ◌++◌, length, set, length-set, Ura, Ty, named, w64, ty_int, ty_bool, ty_ptr, Tables, Lfts, Shares, now, scaled_Fits, ltb-true, ltb-false, Over, World, fix_len, v_at, mslice, reads_Sc, as_is, s_int, s_bool, s_ptr, sc_here, Rec, rec_size, rec_one, rec_copy, Knows, gone, used, held, mut_to, n64, flag, mutS, keeps, ◌⟫◌, meet, last, free, branch, blocks, loops, leaves, calls, num, lit, count, sets, less, plus, times, points, stores, loadsM, copies, unit, skips, returns, Walked, Asked, homes, known, by-walk}
+use Rattle.rollcall.proofs.Kit.{ℕ, ◌+◌, ◌-◌, ◌<◌, ◌≤◌, ◌≡◌, refl, ap, ◌∙◌, subst, List, [], ◌∷◌, ◌++◌, length, set, length-set, Ura, Ty, named, w64, ty_int, ty_bool, ty_ptr, Tables, Lfts, Shares, now, scaled_Fits, ltb-true, ltb-false, Over, World, fix_len, v_at, mslice, reads_Sc, as_is, s_int, s_bool, s_ptr, sc_here, Rec, rec_size, rec_one, rec_copy, Knows, gone, used, held, mut_to, n64, flag, mut_s, keeps, ◌⟫◌, meet, last, free, branch, blocks, loops, leaves, calls, num, lit, count, sets, less, plus, times, points, stores, loads_m, copies, unit, skips, returns, Walked, Asked, homes, known, by-walk}
 use Rattle.roster.proofs.Types.{Lin, lin_one, lin_copy}
 use Rattle.roster.proofs.Sigs.{record_after_s, set_all_s}
 use Rattle.roster.proofs.lines.record_after.Symbol as record-after-def
@@ -25,16 +25,16 @@ module _ {M : Type 1} {𝓤 : Ura M} (𝓛 : Logic 𝓤) (𝓣 : Tables 𝓤 �
       sets 3 (lit 0 tt) gone refl ⟫
       meet
       (blocks (loops {Vs = List Record × ℕ} (λ v u. (u.0, (set_vals v.0 u.1.0, (u.1.1.0, (v.1, u.1.1.1.1))))) (λ u v. (length v.0 ≡ length u.1.0.now) × (v.1 ≤ length u.1.0.now)) (λ u v. length u.1.0.now - v.1)
-      (sets 5 (count 1 (mutS Rec (named 0) 0) refl) gone refl ⟫
+      (sets 5 (count 1 (mut_s Rec (named 0) 0) refl) gone refl ⟫
       less 6 (num 3 n64 refl) (num 5 n64 refl) gone refl ⟫
       meet (branch 6 flag refl skips (free 5 (used (s_int w64)) (free 6 (used s_bool) leaves)))
       (times 5 (num 3 n64 refl) (lit rec_size tt) (used (s_int w64)) refl ⟫
-      points 7 1 (mutS Rec (named 0) 0) (num 5 n64 refl) refl gone refl ⟫
-      loadsM rec_one rec_copy 1 7 8 0 (mut_to (named 0) Rec) rec_size (λ u. u.1.1.1.0) blank (λ x. x) (λ x. x) refl (as_is 𝓛 (mslice Rec (mut_to (named 0) Rec) 0)) (as_is 𝓛 (sc_here s_ptr)) gone tt refl refl ⟫
+      points 7 1 (mut_s Rec (named 0) 0) (num 5 n64 refl) refl gone refl ⟫
+      loads_m rec_one rec_copy 1 7 8 0 (mut_to (named 0) Rec) rec_size (λ u. u.1.1.1.0) blank (λ x. x) (λ x. x) refl (as_is 𝓛 (mslice Rec (mut_to (named 0) Rec) 0)) (as_is 𝓛 (sc_here s_ptr)) gone tt refl refl ⟫
       copies rec_one rec_copy 8 4 (keeps rec_one rec_copy) gone refl refl ⟫
       calls record_after_s record-after-def.name record-after (record { pos = 2; st = []; d = 0; at = λ x. x }, (v_at 3 (λ x. x), (record { pos = 4; st = []; d = 0; at = λ x. x }, tt))) 8 [] (((keeps {𝓛 = 𝓛} lin_one lin_copy).out, refl), ((reads_Sc 𝓛 (s_int w64), refl), (((keeps {𝓛 = 𝓛} rec_one rec_copy).out, refl), tt))) (held Rec) tt refl ⟫
       times 5 (num 3 n64 refl) (lit rec_size tt) (used (s_int w64)) refl ⟫
-      points 9 1 (mutS Rec (named 0) 0) (num 5 n64 refl) refl gone refl ⟫
+      points 9 1 (mut_s Rec (named 0) 0) (num 5 n64 refl) refl gone refl ⟫
       stores rec_one rec_copy 1 9 8 0 (mut_to (named 0) Rec) rec_size (λ u. u.1.1.1.0) (λ x. x) (λ x. x) (keeps rec_one rec_copy) refl (as_is 𝓛 (mslice Rec (mut_to (named 0) Rec) 0)) (as_is 𝓛 (sc_here s_ptr)) tt refl refl ⟫
       free 4 (held Rec) (free 5 (used (s_int w64)) (free 6 (used s_bool) (free 7 (used s_ptr) (free 8 (held Rec) (free 9 (used s_ptr)
       (last (plus 3 (num 3 n64 refl) (lit 1 tt) (used (s_int w64)) refl)))))))))))
