@@ -1,5 +1,6 @@
 // The seals, the transponder, the sensor and the division of a recording for callers in C: numbers and buffers in, one number of
-// 64 bits out. A slice is two arguments in C, a pointer and a length.
+// 64 bits out. The crate mode_s_c exports these calls under the names that C links, where a slice is two arguments, a pointer
+// and a length.
 //
 // Each call is the one of the library below it, and its answer is packed: so each promises that call's definition, packed, and
 // the same buffer. include/mode_s.h says what the caller has to promise.
@@ -23,8 +24,7 @@ use sensor::{Correction, Mark, Verdict};
 use transponder::Reception;
 
 // The reply seal.
-#[unsafe(no_mangle)]
-pub extern "C" fn mode_s_seal_reply(message: &mut [u8], word: u32) -> u64
+pub fn mode_s_seal_reply(message: &mut [u8], word: u32) -> u64
     ensures value { result ≡ packed seal (seal_outcome message.old word) }
     ensures message_after { message.new ≡ reply_after message.old word }
 {
@@ -32,8 +32,7 @@ pub extern "C" fn mode_s_seal_reply(message: &mut [u8], word: u32) -> u64
 }
 
 // The interrogation seal.
-#[unsafe(no_mangle)]
-pub extern "C" fn mode_s_seal_interrogation(message: &mut [u8], address: u32) -> u64
+pub fn mode_s_seal_interrogation(message: &mut [u8], address: u32) -> u64
     ensures value { result ≡ packed seal (seal_outcome message.old address) }
     ensures message_after { message.new ≡ interrogation_after message.old address }
 {
@@ -41,21 +40,14 @@ pub extern "C" fn mode_s_seal_interrogation(message: &mut [u8], address: u32) ->
 }
 
 // The transponder.
-#[unsafe(no_mangle)]
-pub extern "C" fn mode_s_receive(own: u32, message: &[u8]) -> u64
+pub fn mode_s_receive(own: u32, message: &[u8]) -> u64
     ensures { result ≡ packed transponder (reception_outcome own message.now) }
 {
     packed_reception(transponder::receive(own, message))
 }
 
 // The sensor. The confidence buffer is read only.
-#[unsafe(no_mangle)]
-pub extern "C" fn mode_s_correct(
-    message: &mut [u8],
-    confidence: &[u8],
-    word: u32,
-    limit: u32,
-) -> u64
+pub fn mode_s_correct(message: &mut [u8], confidence: &[u8], word: u32, limit: u32) -> u64
     ensures value { result ≡ packed sensor (sensor_outcome message.old confidence.now word limit) }
     ensures message_after { message.new ≡ sensor_after message.old confidence.now word limit }
 {
@@ -63,8 +55,7 @@ pub extern "C" fn mode_s_correct(
 }
 
 // The remainders of a recording of long replies, a word each.
-#[unsafe(no_mangle)]
-pub extern "C" fn mode_s_remainders(replies: &[u8], remainders: &mut [u32]) -> u64
+pub fn mode_s_remainders(replies: &[u8], remainders: &mut [u32]) -> u64
     ensures value { result ≡ packed recording (remainders_outcome replies.now (length remainders.old)) }
     ensures remainders_after { remainders.new ≡ remainders_after replies.now remainders.old }
 {
