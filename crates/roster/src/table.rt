@@ -1,5 +1,5 @@
 // The functions that touch the table's records: one sets them as a line says, one makes the call of a line, one prints
-// them, and one answers a line by these three. Their proofs go by the rules of the crate walks.
+// them, and one answers a line by these three.
 ghost use Rattle.std.specs.Prelude.{◌≤◌, ◌≡◌, length};
 
 use crate::lines::Line;

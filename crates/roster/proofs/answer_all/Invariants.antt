@@ -1,0 +1,9 @@
+-- Each line passes a byte at least, so its number is no more than what is passed.
+use Rattle.std.proofs.Common.{length, ◌-◌, ◌≤◌}
+use Rattle.roster.proofs.answer_all.Given as goal
+
+abbrev pub invariant-loop-records : goal.invariant-loop-records
+invariant-loop-records g l = l.turn.number ≤ l.turn.at
+
+abbrev pub decreases-loop-records : goal.decreases-loop-records
+decreases-loop-records g l = length l.input - l.turn.at
