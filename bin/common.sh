@@ -1,24 +1,33 @@
 # What the scripts beside this file share; it is read by them and not run. A script sets `name`, the program's crate, and
 # `help`, its usage, and calls `serve "$@"`.
 #
-# Only a program that passed its check is run. `rt check` links a program before it runs it on its stored input, so that a
-# program whose check failed stands in target/bin too. Hence a stamp of this file's own, target/checked/NAME, written when
-# the check has passed: a hash of the files that went into the check, one of the program, and the toolchain's version. All
-# go by content, so that a file that was only touched costs no check.
+# Only a program that passed its check is run: `rt run` proves and links it, and it writes its stored output for its stored
+# input. So a program that failed the second stands in its crate's out/ too. Hence a stamp of this file's own,
+# target/checked/NAME, written when the check has passed: a hash of the files that went into the check, one of the program, and
+# the toolchain's version. All go by content, so that a file that was only touched costs no check.
 #
 # bin/install copies this file too, with the scripts and the programs. Beside it then stands `installed`, which says what was
 # installed and has each program's hash: there is nothing to check, and a program that is not the one installed is not run.
 
 here=$(cd "$(dirname "$(readlink -f "${BASH_SOURCE[0]}")")" && pwd -P) || exit 3
 root=${here%/*}
-program=$root/target/bin/$name
+program=$root/crates/$name/out/$name
 stamp=$root/target/checked/$name
 installed=$here/installed
 [ ! -f "$installed" ] || program=$here/programs/$name
-# the command that proves and builds $program
-build=(rt check "$name")
+# the command that proves and builds $program, at the top of the repository
+build=(prove_and_try "$name")
 
 say() { printf '%s: %s\n' "$name" "$*" >&2; }
+
+# Proves, builds and runs a program on its stored input, where it has to write its stored output.
+prove_and_try() ( # CRATE
+    cd "crates/$1" || exit
+    written=$(mktemp) || exit
+    trap 'rm -f "$written"' EXIT
+    rt run <stdin >"$written" || exit
+    cmp "$written" stdout
+)
 
 # The crates of the repository that the program is made of, itself among them, one a line.
 crates_of_program() {
@@ -35,7 +44,8 @@ crates_of_program() {
         END { take(name) }' crates.txt
 }
 
-# One hash of crates.txt and of every file of those crates, but for the must-fail edits, which are no part of the program.
+# One hash of crates.txt and of every file of those crates, but for the must-fail edits, which are no part of the program, and
+# what rt keeps.
 sources() {
     (
         cd "$root" || exit
@@ -43,7 +53,7 @@ sources() {
         [ -n "$folders" ] || exit
         # a crate's name has no character that the shell would take apart
         # shellcheck disable=SC2086
-        find crates.txt $folders -name must-fail -prune -o -type f -print0 | LC_ALL=C sort -z | xargs -0 sha256sum
+        find crates.txt $folders \( -name must-fail -o -name out \) -prune -o -type f -print0 | LC_ALL=C sort -z | xargs -0 sha256sum
     ) | sha256sum
 }
 
@@ -60,8 +70,8 @@ is_checked() { is_built && [ -f "$stamp" ] && [ "$(state)" = "$(cat "$stamp")" ]
 # Called when the program has just passed its check.
 write_stamp() { mkdir -p "${stamp%/*}" && state >"$stamp.new" && mv "$stamp.new" "$stamp"; }
 
-# Has the toolchain prove, build and run the program, and writes the stamp. The program and rt's own stamp go first: rt
-# would otherwise call a program unchanged without a look at the file in target/bin.
+# Has the toolchain prove, build and run the program, and writes the stamp. The program goes first: rt would otherwise call it
+# unchanged without a look at it.
 check() {
     if ! command -v rt >/dev/null; then
         say "the program is not built, or not from these files, and rt, the Rattle toolchain, which would prove and build it, is not on the path"
@@ -70,7 +80,7 @@ check() {
     say "proving and building the program; this takes a minute or two, once"
     local before
     before=$(sources)
-    rm -f "$stamp" "$program" "$root/target/stamp/$name"
+    rm -f "$stamp" "$program"
     if ! (cd "$root" && "${build[@]}") </dev/null >&2; then
         say "the check failed, and the program was not run: see above"
         return 1

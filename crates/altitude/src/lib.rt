@@ -14,7 +14,7 @@ use outcome::Admission;
 
 // What a reply says of the altitude: feet, that there is none, a metric one that is not decoded, an illegal pattern; that
 // its format has no altitude; or the number of the refusal.
-#[derive(Drop)]
+#[derive(Clone, Copy)]
 pub enum Altitude {
     Feet(i32),
     NoAltitude,
@@ -25,7 +25,7 @@ pub enum Altitude {
 }
 
 // Whether an altitude was written, or the number of the refusal.
-#[derive(Drop)]
+#[derive(Clone, Copy)]
 pub enum Writing {
     Written,
     NoSuchField,

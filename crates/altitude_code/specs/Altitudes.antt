@@ -1,5 +1,5 @@
 -- Which altitude a code means, and which code means an altitude (document 02, Point 1; Annex 10 Volume IV).
-use Rattle.std.specs.Prelude.{ℕ, suc, ◌+◌, ◌*◌, ◌-◌, ◌/◌, ◌%◌, ◌^◌, Bool, cond, ◌&&◌, ◌||◌, List, [], ◌∷◌, eqb, ltb, ℤ, pos, negsuc, nat_abs, ◌+ℤ◌, ◌-ℤ◌}
+use Rattle.std.specs.Prelude.{ℕ, suc, ◌*◌, ◌/◌, ◌%◌, ◌^◌, Bool, cond, ◌&&◌, ◌||◌, List, [], ◌∷◌, eqb, ltb, ℤ, pos, negsuc, nat_abs, ◌+ℤ◌, ◌-ℤ◌}
 use Rattle.std.specs.Int.Signed.{le_z}
 use Rattle.altitude_code.specs.Gray.{gray, gray_number}
 use Rattle.altitude_code.specs.Codes.{binary, digit, M, Q, eleven_bits, gray_bits, c_bits, c_patterns, c_pattern, in_order}

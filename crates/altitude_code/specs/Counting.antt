@@ -1,5 +1,5 @@
 -- Altitudes counted in feet above −1200, as the code does inside. Only private functions cite this file.
-use Rattle.std.specs.Prelude.{ℕ, ◌+◌, ◌-◌, ◌/◌, ◌%◌, Bool, cond, ◌&&◌, eqb, leb, ℤ, pos, negsuc, nat_abs, ◌+ℤ◌}
+use Rattle.std.specs.Prelude.{ℕ, ◌-◌, ◌/◌, ◌%◌, Bool, cond, ◌&&◌, eqb, leb, ℤ, pos, negsuc, nat_abs, ◌+ℤ◌}
 use Rattle.std.specs.Int.Signed.{lt_z}
 use Rattle.altitude_code.specs.declared.Encoded.{Encoded}
 use Rattle.altitude_code.specs.declared.Encoded.TheVariants.{Code, OutOfCode}

@@ -14,7 +14,7 @@ mod hundreds;
 mod table;
 
 // What a code means: an altitude in feet, none, a metric one that is not decoded, or nothing that the 100-foot code has.
-#[derive(Drop)]
+#[derive(Clone, Copy)]
 pub enum Decoded {
     Feet(i32),
     NoAltitude,
@@ -23,7 +23,7 @@ pub enum Decoded {
 }
 
 // The code of an altitude, or that the code of that step has no such altitude.
-#[derive(Drop)]
+#[derive(Clone, Copy)]
 pub enum Encoded {
     Code(u32),
     OutOfCode,

@@ -1,6 +1,6 @@
 // The 100-foot code as one table: entry t is the pattern of the altitude that is t steps of 100 feet above −1200.
 //
-// That the rule of the code holds of every entry is one computed test over all of them (proofs/table/pattern/Proof.antt).
+// That the rule of the code holds of every entry is one computed test over all of them (proofs/table/pattern/Answers.antt).
 ghost use Rattle.std.specs.Prelude.{◌≡◌, ◌<◌};
 ghost use Rattle.altitude_code.specs.Altitudes.{code_by_100};
 

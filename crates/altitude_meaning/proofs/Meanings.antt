@@ -30,7 +30,7 @@ hundred k m q p =
       no_metric = m;
       no_step_25 = q;
       gray_code = sym (gray-number (gray_bits k) (gray-lt k));
-      c_pattern_lem = place-pattern _ (c_bits k) (c_lt k) p;
+      c_pattern = place-pattern _ (c_bits k) (c_lt k) p;
     }
 
 -- and has these g and j alone
@@ -39,7 +39,7 @@ module _ (k g j : ℕ) (h : Hundred k g j) where
   same-g = ap (gray_number 8) h.gray_code ∙ number-gray g h.eight
 
   same_place : place_in (c_bits k) c_patterns ≡ in_order g j
-  same_place = ap (λ (c : ℕ). place_in c c_patterns) h.c_pattern_lem ∙ pattern-place g j h.five
+  same_place = ap (λ (c : ℕ). place_in c c_patterns) h.c_pattern ∙ pattern-place g j h.five
 
   has-place : place_in (c_bits k) c_patterns < 5
   has-place = subst (λ (p : ℕ). p < 5) (sym same_place) (in_order_lt g j h.five)

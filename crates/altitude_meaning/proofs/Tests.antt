@@ -84,7 +84,7 @@ pattern_100 t h =
         no_metric = eqb-true _ _ a.0;
         no_step_25 = eqb-true _ _ b.0;
         gray_code = eqb-true _ _ c.0;
-        c_pattern_lem = eqb-true _ _ d.0;
+        c_pattern = eqb-true _ _ d.0;
       },
       ltb-true _ _ d.1,
     )

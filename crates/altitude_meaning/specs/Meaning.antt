@@ -14,7 +14,7 @@ pub record Hundred (k g j : ℕ) : Type 0 where
   pub no_metric : M k ≡ 0
   pub no_step_25 : Q k ≡ 0
   pub gray_code : gray_bits k ≡ gray 8 g
-  pub c_pattern_lem : c_bits k ≡ c_pattern g j
+  pub c_pattern : c_bits k ≡ c_pattern g j
 
 -- 'With M = 0 and Q = 1 the other eleven bits are a number N, in order, and the altitude is 25·N − 1000 feet.'
 unfoldable pub By25 : ℕ → ℤ → Type 0

@@ -14,7 +14,7 @@ use Rattle.outcome.specs.Refusals.{word_too_large, own_address_reserved}
 use Rattle.outcome.proofs.Laws.{never}
 use Rattle.message.specs.Message.{is_word}
 use Rattle.message.proofs.Laws.{field_is}
-use Rattle.transponder.specs.Receptions.{is_reserved, said as saidReception}
+use Rattle.transponder.specs.Receptions.{is_reserved, said as said_reception}
 use Rattle.transponder.specs.declared.Reception.{Reception}
 use Rattle.antennas.specs.Antennas.{is_taken, chosen, choice_of, antenna_of, said, Part, field_of, empty_of, part_of}
 use Rattle.antennas.specs.declared.Antenna.{Antenna}
@@ -64,8 +64,8 @@ module _ (own : ℕ) (upper : List ℕ) (p : ℕ) (lower : List ℕ) (q : ℕ) w
 
 -- ---- what the transponder's answer makes of a buffer, and the companion's of the part
 
-pub taken_by : (r s : Reception) (o : Outcome) → r ≡ s → saidReception r ≡ o → is_taken (saidReception s) ≡ is_taken o
-taken_by r s o e f = ap is_taken (ap saidReception (sym e) ∙ f)
+pub taken_by : (r s : Reception) (o : Outcome) → r ≡ s → said_reception r ≡ o → is_taken (said_reception s) ≡ is_taken o
+taken_by r s o e f = ap is_taken (ap said_reception (sym e) ∙ f)
 
 pub part_by : (r a b : Antenna) (upper lower : Part) → r ≡ a → r ≡ b → part_of a upper lower ≡ part_of b upper lower
 part_by r a b upper lower e f = ap (λ (x : Antenna). part_of x upper lower) (sym e ∙ f)

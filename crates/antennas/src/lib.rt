@@ -11,7 +11,7 @@ ghost use Rattle.antennas.specs.Antennas.{field_of, is_taken, chosen, antenna_of
 use transponder::Reception;
 
 // Which antenna's buffer is taken: the upper, the lower, neither, or the number of the refusal.
-#[derive(Drop)]
+#[derive(Clone, Copy)]
 pub enum Antenna {
     Upper,
     Lower,

@@ -23,7 +23,7 @@ use Rattle.encoder.proofs.Laws.{interrogation_after_lem, interrogation_is, seale
 use Rattle.transponder.specs.Receptions.{Permitted, reception_outcome, said}
 use Rattle.transponder.specs.declared.Reception.{Reception}
 use Rattle.transponder.specs.declared.Reception.TheVariants as R
-use Rattle.antennas.specs.Antennas.{is_taken, antenna_of, Part, part_of, said as saidAntenna}
+use Rattle.antennas.specs.Antennas.{is_taken, antenna_of, Part, part_of, said as said_antenna}
 use Rattle.antennas.specs.declared.Antenna.{Antenna}
 use Rattle.antennas.specs.declared.Antenna.TheVariants.{Upper, Lower, Neither, Refused}
 use Rattle.antennas.proofs.Laws.{Case, case, case_only, said_injective, unrefused-choice}
@@ -100,13 +100,13 @@ receives own m h k = (unrefused_where_none (receive own m)).1 none
     none n (inr (inr (inr (inr b)))) = b
 
 module _ (own : ℕ) (u : List ℕ) (p : ℕ) (l : List ℕ) (q : ℕ) where
-  answers : Unrefused (saidAntenna (antenna_of own u p l q)) → Permitted own
+  answers : Unrefused (said_antenna (antenna_of own u p l q)) → Permitted own
   unfolding UnrefusedWhereNone Applies SomeBreaks Breaks handed outcome row
   answers f =
       let none = (unrefused_where_none (taken_antenna own u p l q)).0 f in
       permitted own (λ w. none _ (inl (refl, w))) (λ w. none _ (inr (inl (refl, w))))
 
-  is-answered : Permitted own → Unrefused (saidAntenna (antenna_of own u p l q))
+  is-answered : Permitted own → Unrefused (said_antenna (antenna_of own u p l q))
   unfolding UnrefusedWhereNone Applies SomeBreaks Breaks handed outcome row
   is-answered h = (unrefused_where_none (taken_antenna own u p l q)).1 none
     where
@@ -181,10 +181,10 @@ module _ (own : ℕ) (u : List ℕ) (p : ℕ) (l : List ℕ) (q : ℕ) where
   t : Bool
   t = is_taken (reception_outcome own l)
 
-  given : (x : Antenna) → Unrefused (saidAntenna x) → antenna_of own u p l q ≡ x → Permitted own × Case s p t q x
+  given : (x : Antenna) → Unrefused (said_antenna x) → antenna_of own u p l q ≡ x → Permitted own × Case s p t q x
   unfolding s t
   given x f e =
-      let unrefused : Unrefused (saidAntenna (antenna_of own u p l q)) = λ n r. f n (sym (ap saidAntenna e) ∙ r) in
+      let unrefused : Unrefused (said_antenna (antenna_of own u p l q)) = λ n r. f n (sym (ap said_antenna e) ∙ r) in
       (answers own u p l q unrefused, subst (Case s p t q) (unrefused-choice own u p l q unrefused ∙ e) (case s p t q))
 
   gives : (x : Antenna) → Permitted own → Case s p t q x → antenna_of own u p l q ≡ x
@@ -228,12 +228,12 @@ says_neither = neither-exactly
 
 pub says_refused : SaysRefused
 unfolding SaysRefused RefusedByLowest Applies SomeBreaks Breaks handed outcome row Wrong
-says_refused own u p l q n = ((λ e. there (lowest.0 (ap saidAntenna e)).0), λ h. said_injective _ (Refused n) (lowest.1 (back h)))
+says_refused own u p l q n = ((λ e. there (lowest.0 (ap said_antenna e)).0), λ h. said_injective _ (Refused n) (lowest.1 (back h)))
   where
     Row : ℕ → Type 0
     Row k = Breaks k (word own) ⊎ (Breaks k (own_address own) ⊎ ⊥)
 
-    lowest : (saidAntenna (antenna_of own u p l q) ≡ refusal n) ↔ (Row n × ((k : ℕ) → k < n → Row k → ⊥))
+    lowest : (said_antenna (antenna_of own u p l q) ≡ refusal n) ↔ (Row n × ((k : ℕ) → k < n → Row k → ⊥))
     lowest = refused_by_lowest (taken_antenna own u p l q) n
 
     there : Row n → ((n ≡ 3) × (0xFFFFFF < own)) ⊎ ((n ≡ 6) × ((own ≡ 0x000000) ⊎ (own ≡ 0xFFFFFF)))

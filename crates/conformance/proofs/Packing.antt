@@ -29,7 +29,7 @@ use Rattle.mode_s.specs.Packing.Source.{seal, transponder, sensor, recording}
 use Rattle.mode_s.specs.Packing.Possible.{refused_by, sealed, own, all_call, broadcast, not_ours, clean, dense, no_fit, corrected, divided}
 use Rattle.mode_s.proofs.Laws.{gives_back, one_to_one, same-answer-same-number}
 use Rattle.conformance.specs.Refusals.{Part, row, Call, handed, outcome, Breaks, SomeBreaks, Applies, RefusedByLowest}
-use Rattle.conformance.specs.Refusals.Call.{seal_reply as sealCall, receive as receiveCall, correct as correctCall, divide_replies}
+use Rattle.conformance.specs.Refusals.Call.{seal_reply as seal_call, receive as receive_call, correct as correct_call, divide_replies}
 use Rattle.conformance.specs.Accepting.{Due, OursIsDue}
 use Rattle.conformance.specs.Correcting.{Judged, IsDense, LowestDense, LowestFit, Right, OursIsRight}
 use Rattle.conformance.specs.Correcting.Right.{clean as is_clean, dense as is_dense, no_fit as is_no_fit, sole as is_sole, several as is_several}
@@ -74,7 +74,7 @@ unfolding FirstSix outcome handed row
 seal_possible m w = by (split (seal_outcome m w))
   where
     by : ((n : ℕ) × (seal_outcome m w ≡ refusal n)) ⊎ ((n : ℕ) × (vs : List ℕ) × (seal_outcome m w ≡ answer n vs)) → Possible seal (seal_outcome m w)
-    by (inl (n, e)) = refused_possible seal (sealCall m w) n (lit≤ tt, lit≤ tt, (lit≤ tt, lit≤ tt, (lit≤ tt, lit≤ tt, tt))) e
+    by (inl (n, e)) = refused_possible seal (seal_call m w) n (lit≤ tt, lit≤ tt, (lit≤ tt, lit≤ tt, (lit≤ tt, lit≤ tt, tt))) e
     by (inr (n, vs, e)) = subst (Possible seal) (sym (answered-done m w n vs e)) sealed
 
 -- the answer that is due
@@ -91,7 +91,7 @@ unfolding FirstSix outcome handed row OursIsDue
 reception_possible a m = by (split (reception_outcome a m))
   where
     by : ((n : ℕ) × (reception_outcome a m ≡ refusal n)) ⊎ ((n : ℕ) × (vs : List ℕ) × (reception_outcome a m ≡ answer n vs)) → Possible transponder (reception_outcome a m)
-    by (inl (n, e)) = refused_possible transponder (receiveCall a m) n (lit≤ tt, lit≤ tt, (lit≤ tt, lit≤ tt, (lit≤ tt, lit≤ tt, (lit≤ tt, lit≤ tt, tt)))) e
+    by (inl (n, e)) = refused_possible transponder (receive_call a m) n (lit≤ tt, lit≤ tt, (lit≤ tt, lit≤ tt, (lit≤ tt, lit≤ tt, (lit≤ tt, lit≤ tt, tt)))) e
     by (inr (n, vs, e)) =
         let d = ours_is_due a m (is_unrefused e) in
         subst (Possible transponder) (sym d.1) (due_possible a m d.0 d.2)
@@ -123,7 +123,7 @@ unfolding FirstSix outcome handed row OursIsRight Judged
 verdict_possible m c w l bm bc = by (split (sensor_outcome m c w l))
   where
     by : ((n : ℕ) × (sensor_outcome m c w l ≡ refusal n)) ⊎ ((n : ℕ) × (vs : List ℕ) × (sensor_outcome m c w l ≡ answer n vs)) → Possible sensor (sensor_outcome m c w l)
-    by (inl (n, e)) = refused_possible sensor (correctCall m c w l) n (lit≤ tt, lit≤ tt, (lit≤ tt, lit≤ tt, (lit≤ tt, lit≤ tt, (lit≤ tt, lit≤ tt, tt)))) e
+    by (inl (n, e)) = refused_possible sensor (correct_call m c w l) n (lit≤ tt, lit≤ tt, (lit≤ tt, lit≤ tt, (lit≤ tt, lit≤ tt, (lit≤ tt, lit≤ tt, tt)))) e
     by (inr (n, vs, e)) =
         let a = unrefused m c w l (is_unrefused e) in
         let h : length m ≤ 14 = (sizes (length m) a.length_ok).1 in

@@ -28,7 +28,7 @@ use Rattle.altitude.specs.Fields.{has_altitude}
 use Rattle.altitude.specs.Answers.{said_altitude, said_writing, reading_of, reading_outcome, writing_outcome}
 use Rattle.altitude.specs.declared.Writing.TheVariants.{Written, NoSuchField}
 use Rattle.altitude.proofs.Laws.{reading_final, left-refused}
-use Rattle.antennas.specs.Antennas.{is_taken, choice_of, said as saidAntenna}
+use Rattle.antennas.specs.Antennas.{is_taken, choice_of, said as said_antenna}
 use Rattle.antennas.specs.declared.Antenna.{Antenna}
 use Rattle.antennas.specs.declared.Antenna.TheVariants.{Upper, Lower, Neither, Refused as AntennaRefused}
 use Rattle.antennas.proofs.Laws.{Case as AntennaCase, case as antenna-case, said-by-tests}
@@ -43,7 +43,7 @@ use Rattle.uplink_elm.proofs.Laws.{onward, by-reception, refused_leaves as segme
 use Rattle.uplink_elm_sending.specs.Sending.{segment_count, last_numbers, round_numbers, last_outcome, round_outcome}
 use Rattle.uplink_elm_sending.proofs.Laws.{opening-leaves, exchange-leaves, round-leaves}
 use Rattle.conformance.specs.Refusals.{Part, row, Call, handed, outcome, lent, after, Breaks, SomeBreaks, Applies, RefusedByLowest, UnrefusedWhereNone, RefusedLeaves}
-use Rattle.conformance.specs.Refusals.Call.{register_step, register_back, uplink_overlay, field_parity, message_remainder, address_read as readAddress, seal_reply, seal_interrogation, receive, correct, read_altitude, write_altitude, taken_antenna, clear_table, add_or_renew, remove_record, find_record, receive_segment, send_opening, send_round, send_exchange, divide_replies}
+use Rattle.conformance.specs.Refusals.Call.{register_step, register_back, uplink_overlay, field_parity, message_remainder, address_read as read_address, seal_reply, seal_interrogation, receive, correct, read_altitude, write_altitude, taken_antenna, clear_table, add_or_renew, remove_record, find_record, receive_segment, send_opening, send_round, send_exchange, divide_replies}
 use Rattle.conformance.specs.Refusals.Lent.{bytes, rollcall, upload, words}
 use Rattle.conformance.proofs.Rows.{passes, failed_wrong, wrong_failed}
 
@@ -132,14 +132,14 @@ final (register_back r) = value (backward r)
 final (uplink_overlay a) = value (overlay a)
 final (field_parity f) = value (parity (number f))
 final (message_remainder m) = value (remainder (number m))
-final (readAddress m) = value (address_read (number m))
+final (read_address m) = value (address_read (number m))
 final (seal_reply m w) = done
 final (seal_interrogation m a) = done
 final (receive own m) = said (reception_of own (address_read (number m)) (format_number m))
 final (correct m c w l) = decision_answer m (syndrome m w) (decision_of m c w l)
 final (read_altitude m) = said_altitude (reading_of m)
 final (write_altitude m z s) = said_writing (cond (has_altitude m) Written NoSuchField)
-final (taken_antenna own u p l q) = saidAntenna (choice_of own u p l q)
+final (taken_antenna own u p l q) = said_antenna (choice_of own u p l q)
 final (clear_table rs ps n) = done
 final (add_or_renew rs ps n s) = cond (is_in rs s.address) (cond (stands rs s) renewed held) added
 final (remove_record rs ps n a) = cond (is_in rs a) (answer 3 []) absent
@@ -173,7 +173,7 @@ is_chain (register_back r) = refl
 is_chain (uplink_overlay a) = refl
 is_chain (field_parity f) = refl
 is_chain (message_remainder m) = refl
-is_chain (readAddress m) = refl
+is_chain (read_address m) = refl
 is_chain (seal_reply m w) = refl
 is_chain (seal_interrogation m a) = refl
 is_chain (receive own m) = refl
@@ -201,7 +201,7 @@ in_order_lem (register_back r) = (lit≤ tt, tt)
 in_order_lem (uplink_overlay a) = (lit≤ tt, tt)
 in_order_lem (field_parity f) = (lit≤ tt, tt)
 in_order_lem (message_remainder m) = (lit≤ tt, tt)
-in_order_lem (readAddress m) = (lit≤ tt, tt)
+in_order_lem (read_address m) = (lit≤ tt, tt)
 in_order_lem (seal_reply m w) = (lit≤ tt, (lit≤ tt, (lit≤ tt, tt)))
 in_order_lem (seal_interrogation m a) = (lit≤ tt, (lit≤ tt, (lit≤ tt, tt)))
 in_order_lem (receive own m) = (lit≤ tt, (lit≤ tt, (lit≤ tt, (lit≤ tt, tt))))
@@ -243,7 +243,7 @@ writing_final : (t : Bool) → Unrefused (said_writing (cond t Written NoSuchFie
 writing_final true n e = refusal_is_no_answer (sym e)
 writing_final false n e = refusal_is_no_answer (sym e)
 
-antenna_final : (s : Bool) (p : ℕ) (t : Bool) (q : ℕ) (x : Antenna) → AntennaCase s p t q x → Unrefused (saidAntenna x)
+antenna_final : (s : Bool) (p : ℕ) (t : Bool) (q : ℕ) (x : Antenna) → AntennaCase s p t q x → Unrefused (said_antenna x)
 antenna_final s p t q Upper h n e = refusal_is_no_answer (sym e)
 antenna_final s p t q Lower h n e = refusal_is_no_answer (sym e)
 antenna_final s p t q Neither h n e = refusal_is_no_answer (sym e)
@@ -266,7 +266,7 @@ is_final (register_back r) n e = refusal_is_no_answer (sym e)
 is_final (uplink_overlay a) n e = refusal_is_no_answer (sym e)
 is_final (field_parity f) n e = refusal_is_no_answer (sym e)
 is_final (message_remainder m) n e = refusal_is_no_answer (sym e)
-is_final (readAddress m) n e = refusal_is_no_answer (sym e)
+is_final (read_address m) n e = refusal_is_no_answer (sym e)
 is_final (seal_reply m w) n e = refusal_is_no_answer (sym e)
 is_final (seal_interrogation m a) n e = refusal_is_no_answer (sym e)
 is_final (receive own m) n e = reception_final own (address_read (number m)) (format_number m) (reception_of own (address_read (number m)) (format_number m)) (case own (address_read (number m)) (format_number m)) n e
@@ -310,7 +310,7 @@ refused_leaves (register_back r) n e = refl
 refused_leaves (uplink_overlay a) n e = refl
 refused_leaves (field_parity f) n e = refl
 refused_leaves (message_remainder m) n e = refl
-refused_leaves (readAddress m) n e = refl
+refused_leaves (read_address m) n e = refl
 refused_leaves (seal_reply m w) n e = ap bytes (left_of _ _ m (reply_seal m w) e)
 refused_leaves (seal_interrogation m a) n e = ap bytes (left_of _ _ m (interrogation_seal m a) e)
 refused_leaves (receive own m) n e = refl

@@ -16,7 +16,7 @@ use Rattle.transponder.specs.declared.Reception.TheVariants.{Own}
 use Rattle.sensor.specs.Verdicts.{sensor_outcome, sensor_after}
 use Rattle.altitude_code.specs.Altitudes.{lowest, highest}
 use Rattle.altitude.specs.Answers.{reading_outcome, writing_outcome, writing_after}
-use Rattle.antennas.specs.Antennas.{antenna_of, said as saidAntenna}
+use Rattle.antennas.specs.Antennas.{antenna_of, said as said_antenna}
 use Rattle.rollcall_table.specs.declared.Record.{Record}
 use Rattle.rollcall_table.specs.declared.Sighting.{Sighting}
 use Rattle.rollcall_table.specs.Table.{largest, record_at, Sound, holds}
@@ -173,7 +173,7 @@ outcome (receive own m) = reception_outcome own m
 outcome (correct m c w l) = sensor_outcome m c w l
 outcome (read_altitude m) = reading_outcome m
 outcome (write_altitude m z s) = writing_outcome m z s
-outcome (taken_antenna own u p l q) = saidAntenna (antenna_of own u p l q)
+outcome (taken_antenna own u p l q) = said_antenna (antenna_of own u p l q)
 outcome (clear_table rs ps n) = clear_outcome rs ps
 outcome (add_or_renew rs ps n s) = add_outcome rs ps n s
 outcome (remove_record rs ps n a) = remove_outcome rs ps n a

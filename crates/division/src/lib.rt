@@ -24,7 +24,7 @@ pub use remainder::{address_read, message_remainder};
 pub use rows::parity_by_rows;
 
 // A 24-bit word, or the number of the refusal.
-#[derive(Drop)]
+#[derive(Clone, Copy)]
 pub enum Word {
     Value(u32),
     Refused(u32),

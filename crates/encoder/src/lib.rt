@@ -9,14 +9,14 @@ ghost use Rattle.std.specs.Int.Bits.{bit_xor};
 ghost use Rattle.outcome.specs.Outcomes.{admission};
 ghost use Rattle.division.specs.Division.{parity, overlay};
 ghost use Rattle.message.specs.Message.{number, is_message_length, is_field_length};
-ghost use Rattle.message.specs.Message.{field as messageField};
+ghost use Rattle.message.specs.Message.{field as message_field};
 ghost use Rattle.encoder.specs.Seals.{said, word_bytes, with_parity, seal_outcome, reply_after, interrogation_after};
 
 use division::Word;
 use outcome::Admission;
 
 // Sealed, or the number of the refusal.
-#[derive(Drop)]
+#[derive(Clone, Copy)]
 pub enum Seal {
     Sealed,
     Refused(u32),
@@ -75,7 +75,7 @@ fn check(m: &[u8], word: u32) -> Admission
 fn write_parity(m: &mut [u8], word: u32)
     requires m_value { is_message_length (length m.old) ≡ true }
     requires word_bound { word < 2 ^ 24 }
-    ensures { m.new ≡ with_parity m.old (bit_xor (parity (number (messageField m.old))) word) }
+    ensures { m.new ≡ with_parity m.old (bit_xor (parity (number (message_field m.old))) word) }
 {
     let at = m.len() - 3;
     let sum = field_parity(&m[..at]) ^ word;

@@ -3,13 +3,13 @@
 use mathlib.Core.Path.{◌≡◌, refl, sym, ap, ◌∙◌}
 use mathlib.Core.Logic.{◌⊎◌, inl, inr}
 use mathlib.Core.List.{List}
-use Prim.Native.Nat.{ℕ, ◌+◌, ◌*◌, ◌/◌, ◌%◌, ◌^◌, ◌<◌, ◌≤◌}
+use Prim.Native.Nat.{ℕ, ◌^◌, ◌<◌}
 use native.Mathlib.Omega.{arith}
 use lib.Dec.{lit<}
 use Rattle.outcome.specs.Outcomes.{Outcome}
 use Rattle.outcome.specs.Outcomes.Outcome.{refusal, answer}
 use Rattle.sensor.specs.Verdicts.{sole_mark, several_mark}
-use Rattle.mode_s.specs.Packing.{parts, number_in, refusal_in, mark_in, window_in, bits_in, address_in, Source, refused_number, packed, Answer, answer_of, answer_by, unpacked, Possible, GivesBack, OneToOne, OneToOneOfOne, AlikeWhereRefused, PartsApart, NeverZero}
+use Rattle.mode_s.specs.Packing.{parts, number_in, refusal_in, mark_in, window_in, bits_in, address_in, Source, refused_number, packed, answer_of, answer_by, unpacked, GivesBack, OneToOne, OneToOneOfOne, AlikeWhereRefused, PartsApart, NeverZero}
 use Rattle.mode_s.specs.Packing.Answer.{refused, given}
 use Rattle.mode_s.specs.Packing.Possible.{refused_by, sealed, own, all_call, broadcast, not_ours, clean, dense, no_fit, corrected, divided}
 

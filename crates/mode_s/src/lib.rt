@@ -1,5 +1,6 @@
 // The seals, the transponder, the sensor and the division of a recording for callers in C: numbers and buffers in, one number of
-// 64 bits out. A slice is two arguments in C, a pointer and a length.
+// 64 bits out. The crate mode_s_c exports these calls under the names that C links, where a slice is two arguments, a pointer
+// and a length.
 //
 // Each call is the one of the library below it, and its answer is packed: so each promises that call's definition, packed, and
 // the same buffer. include/mode_s.h says what the caller has to promise.
@@ -7,13 +8,13 @@
 
 ghost use Rattle.std.specs.Prelude.{◌≡◌, length};
 ghost use Rattle.encoder.specs.Seals.{seal_outcome, reply_after, interrogation_after};
-ghost use Rattle.encoder.specs.Seals.{said as saidSeal};
+ghost use Rattle.encoder.specs.Seals.{said as said_seal};
 ghost use Rattle.transponder.specs.Receptions.{reception_outcome};
-ghost use Rattle.transponder.specs.Receptions.{said as saidReception};
+ghost use Rattle.transponder.specs.Receptions.{said as said_reception};
 ghost use Rattle.sensor.specs.Verdicts.{sensor_outcome, sensor_after, mark_of};
-ghost use Rattle.sensor.specs.Verdicts.{said as saidVerdict};
+ghost use Rattle.sensor.specs.Verdicts.{said as said_verdict};
 ghost use Rattle.remainders.specs.Recording.{remainders_outcome, remainders_after};
-ghost use Rattle.remainders.specs.Recording.{said as saidDivided};
+ghost use Rattle.remainders.specs.Recording.{said as said_divided};
 ghost use Rattle.mode_s.specs.Packing.{parts, packed};
 ghost use Rattle.mode_s.specs.Packing.Source.{seal, transponder, sensor, recording};
 
@@ -23,8 +24,7 @@ use sensor::{Correction, Mark, Verdict};
 use transponder::Reception;
 
 // The reply seal.
-#[unsafe(no_mangle)]
-pub extern "C" fn mode_s_seal_reply(message: &mut [u8], word: u32) -> u64
+pub fn mode_s_seal_reply(message: &mut [u8], word: u32) -> u64
     ensures value { result ≡ packed seal (seal_outcome message.old word) }
     ensures message_after { message.new ≡ reply_after message.old word }
 {
@@ -32,8 +32,7 @@ pub extern "C" fn mode_s_seal_reply(message: &mut [u8], word: u32) -> u64
 }
 
 // The interrogation seal.
-#[unsafe(no_mangle)]
-pub extern "C" fn mode_s_seal_interrogation(message: &mut [u8], address: u32) -> u64
+pub fn mode_s_seal_interrogation(message: &mut [u8], address: u32) -> u64
     ensures value { result ≡ packed seal (seal_outcome message.old address) }
     ensures message_after { message.new ≡ interrogation_after message.old address }
 {
@@ -41,21 +40,14 @@ pub extern "C" fn mode_s_seal_interrogation(message: &mut [u8], address: u32) ->
 }
 
 // The transponder.
-#[unsafe(no_mangle)]
-pub extern "C" fn mode_s_receive(own: u32, message: &[u8]) -> u64
+pub fn mode_s_receive(own: u32, message: &[u8]) -> u64
     ensures { result ≡ packed transponder (reception_outcome own message.now) }
 {
     packed_reception(transponder::receive(own, message))
 }
 
 // The sensor. The confidence buffer is read only.
-#[unsafe(no_mangle)]
-pub extern "C" fn mode_s_correct(
-    message: &mut [u8],
-    confidence: &[u8],
-    word: u32,
-    limit: u32,
-) -> u64
+pub fn mode_s_correct(message: &mut [u8], confidence: &[u8], word: u32, limit: u32) -> u64
     ensures value { result ≡ packed sensor (sensor_outcome message.old confidence.now word limit) }
     ensures message_after { message.new ≡ sensor_after message.old confidence.now word limit }
 {
@@ -63,8 +55,7 @@ pub extern "C" fn mode_s_correct(
 }
 
 // The remainders of a recording of long replies, a word each.
-#[unsafe(no_mangle)]
-pub extern "C" fn mode_s_remainders(replies: &[u8], remainders: &mut [u32]) -> u64
+pub fn mode_s_remainders(replies: &[u8], remainders: &mut [u32]) -> u64
     ensures value { result ≡ packed recording (remainders_outcome replies.now (length remainders.old)) }
     ensures remainders_after { remainders.new ≡ remainders_after replies.now remainders.old }
 {
@@ -72,7 +63,7 @@ pub extern "C" fn mode_s_remainders(replies: &[u8], remainders: &mut [u32]) -> u
 }
 
 fn packed_seal(s: Seal) -> u64
-    ensures { result ≡ packed seal (saidSeal s) }
+    ensures { result ≡ packed seal (said_seal s) }
 {
     match s {
         Seal::Sealed => parts(2, 0, 0, 0, 0, 0),
@@ -81,7 +72,7 @@ fn packed_seal(s: Seal) -> u64
 }
 
 fn packed_reception(s: Reception) -> u64
-    ensures { result ≡ packed transponder (saidReception s) }
+    ensures { result ≡ packed transponder (said_reception s) }
 {
     match s {
         Reception::Own => parts(3, 0, 0, 0, 0, 0),
@@ -93,7 +84,7 @@ fn packed_reception(s: Reception) -> u64
 }
 
 fn packed_verdict(s: Verdict) -> u64
-    ensures { result ≡ packed sensor (saidVerdict s) }
+    ensures { result ≡ packed sensor (said_verdict s) }
 {
     match s {
         Verdict::Clean => parts(7, 0, 0, 0, 0, 0),
@@ -105,7 +96,7 @@ fn packed_verdict(s: Verdict) -> u64
 }
 
 fn packed_divided(s: Divided) -> u64
-    ensures { result ≡ packed recording (saidDivided s) }
+    ensures { result ≡ packed recording (said_divided s) }
 {
     match s {
         Divided::All => parts(11, 0, 0, 0, 0, 0),

@@ -3,7 +3,7 @@
 #![tactic(auto)]
 
 // Whether a call may be made: it passed every check, or the number of the refusal.
-#[derive(Drop)]
+#[derive(Clone, Copy)]
 pub enum Admission {
     Passed,
     Refused(u32),

@@ -14,7 +14,7 @@ use replies::sum_all;
 use tables::{TOTAL, fill_others, write_last};
 
 // All are divided, or the number of the refusal.
-#[derive(Drop)]
+#[derive(Clone, Copy)]
 pub enum Divided {
     All,
     Refused(u32),

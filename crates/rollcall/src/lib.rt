@@ -2,7 +2,7 @@
 // address, with its count, which is passed in and returned.
 //
 // A call reads the table first and decides what to change (locate, then rollcall_plans, by value), and then changes it
-// (apply). So few functions touch the records, and each does one thing. Their proofs go by the rules of the crate walks.
+// (apply). So few functions touch the records, and each does one thing.
 #![tactic(auto)]
 
 ghost use Rattle.std.specs.Prelude.{◌≡◌};

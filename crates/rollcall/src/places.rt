@@ -1,7 +1,7 @@
 // The list of places: read at a position, opened for a new place, and closed over one that leaves.
 ghost use Rattle.std.specs.Prelude.{◌+◌, ◌-◌, ◌≤◌, ◌<◌, ◌≡◌, length};
 ghost use Rattle.rollcall_table.specs.Table.{place_at};
-ghost use Rattle.rollcall_plans.specs.Calls.{opened as openedAt, closed as closedAt};
+ghost use Rattle.rollcall_plans.specs.Calls.{opened as opened_at, closed as closed_at};
 ghost use Rattle.rollcall_plans.specs.Plans.{rearranged};
 
 use rollcall_plans::Plan;
@@ -22,7 +22,7 @@ fn wide(p: u16) -> usize
 // From a place of the list on, up to the end, the entries move up by one, and v stands before them.
 fn open_up(places: &mut [u16], at: usize, end: usize, v: u16)
     requires { (at ≤ end) × (end ≤ length places.old) }
-    ensures { places.new ≡ openedAt at (end - at) v places.old }
+    ensures { places.new ≡ opened_at at (end - at) v places.old }
 {
     let mut carried = v;
     let mut i = at;
@@ -37,7 +37,7 @@ fn open_up(places: &mut [u16], at: usize, end: usize, v: u16)
 // From a place of the list on, up to the end, each entry takes what stands after it.
 fn close_up(places: &mut [u16], at: usize, end: usize)
     requires { (at ≤ end) × (end ≤ length places.old) }
-    ensures { places.new ≡ closedAt at (end - 1 - at) places.old }
+    ensures { places.new ≡ closed_at at (end - 1 - at) places.old }
 {
     let mut i = at;
     while i + 1 < end {

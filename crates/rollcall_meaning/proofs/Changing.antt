@@ -2,11 +2,11 @@
 use mathlib.Core.Path.{◌≡◌, refl, sym, ap, ◌∙◌, subst}
 use mathlib.Core.Bool.{Bool, true, false, not, cond, ◌&&◌, ◌||◌}
 use mathlib.Core.List.{List, [], ◌∷◌}
-use mathlib.Core.Logic.{◌⊎◌, inl, inr, ◌↔◌}
+use mathlib.Core.Logic.{◌⊎◌, inl, inr}
 use mathlib.Core.Option.{Option, none, some}
 use Prim.Native.Nat.{ℕ, zero, suc, ◌≤◌, ◌<◌}
 use native.Mathlib.Omega.{arith}
-use lib.Dec.{eqb, ltb}
+use lib.Dec.{eqb}
 use lib.ListN.{length, set}
 use lib.Seq.{get_or-set_same, get_or-set_other}
 use borrow.Author.Tests.{eqb-true, eqb-false, ne_eqb, ltb-true, ltb-false, leb-true, le-leb}
@@ -22,7 +22,7 @@ use Rattle.rollcall_table.specs.Standing.{grade_number, record_beats}
 use Rattle.rollcall_plans.specs.Calls.{altitude_values, found, added, renewed, absent, held, kept, add_answer, stands, clear_outcome, clear_records, find_outcome, remove_outcome, remove_count, remove_records, remove_places, add_outcome, add_count, add_records, add_places}
 use Rattle.rollcall_plans.proofs.Laws.{add_by}
 use Rattle.rollcall_meaning.specs.Maps.{Value, value_of, map_of, record_for, told, stands_over, is_some, Table, outcome, after}
-use Rattle.rollcall_meaning.specs.Maps.Call.{clear, add, remove, find}
+use Rattle.rollcall_meaning.specs.Maps.Call.{add, remove, find}
 use Rattle.rollcall_meaning.specs.Keeping.{SoundTable, RightLengths, FindGives, AbsentWhereNothing, AbsentChangesNothing, AddPuts, SaysWhetherItStands, HeldChangesNothing, FullExactly, RemoveTakesOut, ClearEmpties, ClearUnsetsMarks, RemoveUnsetsMark, AddChangesOne}
 use Rattle.rollcall_meaning.proofs.Mapping.{map_is, map-none, some_in, none_in, put_map, remove-map, clear-map}
 

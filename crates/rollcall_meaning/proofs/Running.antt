@@ -5,7 +5,7 @@ use mathlib.Core.Bool.{Bool, true, false, not, cond, ◌||◌}
 use mathlib.Core.List.{List, [], ◌∷◌}
 use mathlib.Core.Logic.{inl, inr}
 use mathlib.Core.Option.{Option, none, some}
-use Prim.Native.Nat.{ℕ, suc, ◌+◌, ◌-◌, ◌≤◌, ◌<◌}
+use Prim.Native.Nat.{ℕ, ◌+◌, ◌-◌, ◌<◌}
 use native.Mathlib.Omega.{arith}
 use lib.Dec.{eqb, ltb}
 use lib.ListN.{length, set, length-set}
@@ -16,7 +16,7 @@ use Rattle.outcome.proofs.Laws.{never}
 use Rattle.message.specs.Message.{is_word}
 use Rattle.rollcall_table.specs.declared.Record.{Record}
 use Rattle.rollcall_table.specs.declared.Sighting.{Sighting}
-use Rattle.rollcall_table.specs.Table.{record_at, right_lengths, is_sound, holds, holder, free_place, is_in, has_room, unmarked, unmarked_all, record_of}
+use Rattle.rollcall_table.specs.Table.{record_at, is_sound, holds, holder, free_place, is_in, has_room, unmarked, unmarked_all, record_of}
 use Rattle.rollcall_table.proofs.Laws.{Parts, of_parts, sound, lengths_right, free_fewer, full, in_holds, holds_in, alone}
 use Rattle.rollcall_table.specs.Standing.{record_beats}
 use Rattle.rollcall_plans.specs.Calls.{add_answer, stands, found, absent, kept, clear_outcome, clear_count, clear_records, find_outcome, remove_outcome, remove_count, remove_records, add_outcome, add_count, add_records}

@@ -2,26 +2,26 @@
 use mathlib.Core.Path.{◌≡◌, refl, sym, ap, ◌∙◌, subst}
 use mathlib.Core.Bool.{Bool, true, false, not, cond, ◌&&◌, ◌||◌}
 use mathlib.Core.List.{List, [], ◌∷◌}
-use Prim.Native.Nat.{ℕ, zero, suc, ◌+◌, ◌-◌, ◌≤◌, ◌<◌}
+use Prim.Native.Nat.{ℕ, suc, ◌+◌, ◌-◌, ◌≤◌, ◌<◌}
 use native.Mathlib.Nat.{zero-add}
 use native.Mathlib.Omega.{arith}
 use lib.Dec.{eqb, ltb}
-use lib.ListN.{length, get_or, set, take, length-set}
+use lib.ListN.{length, set, take, length-set}
 use lib.Seq.{get_or-set_same, get_or-set_other, get_or-take, length-take-le}
 use borrow.Author.Tests.{eqb-true, eqb-false, ltb-true}
-use Rattle.outcome.specs.Outcomes.{Outcome, done, unless}
+use Rattle.outcome.specs.Outcomes.{done, unless}
 use Rattle.outcome.specs.Outcomes.Outcome.{answer}
 use Rattle.outcome.proofs.Laws.{never, both}
 use Rattle.message.specs.Message.{is_word}
 use Rattle.rollcall_table.specs.declared.Record.{Record}
 use Rattle.rollcall_table.specs.declared.Sighting.{Sighting}
-use Rattle.rollcall_table.specs.Table.{largest, blank, record_at, place_at, address_at, right_lengths, one, live_in, in_order, is_sound, holds, holder, free_place, is_in, has_room, position, unmarked, unmarked_all, record_of}
+use Rattle.rollcall_table.specs.Table.{largest, blank, record_at, place_at, address_at, right_lengths, live_in, in_order, is_sound, holds, holder, free_place, is_in, has_room, position, unmarked, unmarked_all, record_of}
 use Rattle.rollcall_table.proofs.Laws.{Parts, parts, of_parts, sound, sound-parts, lengths_right, in-there, in_holds, holds_in, holds_parts, alone, same_count, less_count, more_count, live_within, free_is, free_fewer}
 use Rattle.rollcall_plans.specs.Calls.{absent, kept, opened, closed, clear_outcome, clear_count, clear_records, remove_outcome, remove_count, remove_records, remove_places, add_outcome, add_count, add_records, add_places}
 use Rattle.rollcall_plans.proofs.Laws.{open-length, close_length, position-le, add_by}
 use Rattle.rollcall_meaning.specs.Maps.{Call, Table, after}
 use Rattle.rollcall_meaning.specs.Maps.Call.{clear, add, remove, find}
-use Rattle.rollcall_meaning.specs.Keeping.{CheckedIsSound, SoundTable, RightLengths, KeepsSound, ClearMends, NoneLiveTwice}
+use Rattle.rollcall_meaning.specs.Keeping.{CheckedIsSound, RightLengths, KeepsSound, ClearMends, NoneLiveTwice}
 use Rattle.rollcall_meaning.proofs.Ordering.{order_same, delete, order_delete, close_take, insert, order_insert, open-take}
 
 -- ---- the check

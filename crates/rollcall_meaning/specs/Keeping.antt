@@ -1,9 +1,9 @@
 -- What each call on the roll-call table keeps and changes (document 02, Points 4 and 12), as statements about the definitions that the
 -- contracts name.
-use Rattle.std.specs.Prelude.{ℕ, ◌<◌, ◌≤◌, ◌≡◌, ◌↔◌, ◌⊎◌, true, false, cond, ◌&&◌, List, [], eqb, length}
+use Rattle.std.specs.Prelude.{ℕ, ◌<◌, ◌≤◌, ◌≡◌, ◌↔◌, ◌⊎◌, true, false, cond, ◌&&◌, List, eqb, length}
 use Rattle.std.proofs.Math.Option.{none, some}
 use Rattle.outcome.specs.Outcomes.{Unrefused}
-use Rattle.outcome.specs.Outcomes.Outcome.{refusal, answer}
+use Rattle.outcome.specs.Outcomes.Outcome.{refusal}
 use Rattle.rollcall_table.specs.declared.Record.{Record}
 use Rattle.rollcall_table.specs.declared.Sighting.{Sighting}
 use Rattle.rollcall_table.specs.Table.{largest, record_at, Sound, is_sound, holds, unmarked, record_of}

@@ -7,7 +7,6 @@ use lib.IntN.{ℤ, pos, negsuc}
 use lib.ListN.{get_or}
 use Rattle.outcome.specs.Outcomes.{Outcome}
 use Rattle.outcome.specs.Outcomes.Outcome.{refusal, answer}
-use Rattle.rollcall_table.specs.declared.Record.{Record}
 use Rattle.rollcall_table.specs.declared.Reading.{Reading}
 use Rattle.rollcall_table.specs.declared.Reading.TheVariants.{Known, Missing}
 use Rattle.rollcall_table.specs.declared.Grade.{Grade}

@@ -2,7 +2,7 @@
 --
 -- A call that is refused changes nothing. The place of a new record is the lowest one that is free; past the count the places
 -- stay as the moves of the list leave them.
-use Rattle.std.specs.Prelude.{ℕ, zero, suc, ◌+◌, ◌-◌, Bool, true, false, not, cond, ◌||◌, List, [], ◌∷◌, ◌++◌, ℤ, pos, negsuc, length, set}
+use Rattle.std.specs.Prelude.{ℕ, zero, suc, ◌+◌, ◌-◌, Bool, not, cond, ◌||◌, List, [], ◌∷◌, pos, negsuc, length, set}
 use Rattle.outcome.specs.Outcomes.{Outcome, done, unless}
 use Rattle.outcome.specs.Outcomes.Outcome.{refusal, answer}
 use Rattle.outcome.specs.Refusals.{word_too_large, table_unsound, table_full}

@@ -10,7 +10,7 @@ pub use plans::{
 };
 
 // What a call answers.
-#[derive(Drop)]
+#[derive(Clone, Copy)]
 pub enum Rolled {
     Cleared,
     Added,
@@ -23,7 +23,7 @@ pub enum Rolled {
 }
 
 // The answer, and the count after the call.
-#[derive(Drop)]
+#[derive(Clone, Copy)]
 pub struct Reply {
     pub answer: Rolled,
     pub count: usize,
@@ -31,7 +31,7 @@ pub struct Reply {
 
 // Where an address stands: the refusal's number or 0; whether it is live; where it stands in the list, or is to stand; its
 // place, or else the length; its record, or else a blank one.
-#[derive(Drop)]
+#[derive(Clone, Copy)]
 pub struct Spot {
     pub refusal: u32,
     pub present: bool,
@@ -41,7 +41,7 @@ pub struct Spot {
 }
 
 // What a call answers and changes: the record to be put at a place, and the part of the list that moves up or down.
-#[derive(Drop)]
+#[derive(Clone, Copy)]
 pub struct Plan {
     pub answer: Rolled,
     pub count: usize,

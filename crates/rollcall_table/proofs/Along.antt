@@ -1,6 +1,6 @@
 -- Along the records and along the list: what a turn of each loop does, and what is left at its end.
 use mathlib.Core.Path.{◌≡◌, refl, sym, ap, ◌∙◌, subst}
-use mathlib.Core.Bool.{Bool, true, false, not, cond, ◌&&◌, and-eq-true_iff}
+use mathlib.Core.Bool.{Bool, true, false, cond, ◌&&◌}
 use mathlib.Core.List.{List, [], ◌∷◌}
 use Prim.Native.Nat.{ℕ, zero, suc, ◌+◌, ◌-◌, ◌≤◌, ◌<◌}
 use native.Mathlib.Nat.{not-suc-le-zero, le_of_suc-le-suc, suc-add, add_assoc, le_trans}
@@ -9,7 +9,7 @@ use native.Mathlib.Omega.{arith}
 use lib.Dec.{lit≤, ltb, leb}
 use lib.ListN.{length, get_or, set, take, drop}
 use lib.Seq.{drop-cons, get_or-take, length-take-le}
-use borrow.Author.Tests.{ltb-true, ltb-false, lt-ltb, leb-true, not-true, not-false}
+use borrow.Author.Tests.{ltb-true, ltb-false, lt-ltb, leb-true}
 use Rattle.outcome.proofs.Laws.{never, both}
 use Rattle.message.specs.Message.{is_word}
 use Rattle.rollcall_table.specs.declared.Record.{Record}

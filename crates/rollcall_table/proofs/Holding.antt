@@ -1,22 +1,22 @@
 -- Whose record it is: the place of an address's live record, which the search by halving finds in a sound table.
 use mathlib.Core.Path.{◌≡◌, refl, sym, ap, ◌∙◌, subst}
-use mathlib.Core.Bool.{Bool, true, false, not, cond, ◌&&◌}
+use mathlib.Core.Bool.{Bool, true, false, cond, ◌&&◌}
 use mathlib.Core.List.{List, [], ◌∷◌}
 use Prim.Native.Nat.{ℕ, zero, suc, ◌≤◌, ◌<◌}
 use native.Mathlib.Nat.{not-suc-le-zero, le_of_suc-le-suc}
 use native.Mathlib.Omega.{arith}
 use lib.Dec.{eqb, ltb, leb}
-use lib.ListN.{length, get_or, take}
+use lib.ListN.{length, take}
 use lib.Seq.{get_or-take, length-take-le}
 use borrow.Author.Tests.{eqb-true, eqb-false, eq-eqb, ltb-true, ltb-false, lt-ltb, leb-true}
 use Rattle.outcome.proofs.Laws.{never, both}
 use Rattle.message.specs.Message.{is_word}
 use Rattle.rollcall_table.specs.declared.Record.{Record}
-use Rattle.rollcall_table.specs.Table.{largest, record_at, place_at, address_at, right_lengths, Sound, live_in, in_order, is_sound, holds, holder, free_place, below, is_in, position}
+use Rattle.rollcall_table.specs.Table.{largest, record_at, place_at, address_at, right_lengths, Sound, live_in, in_order, is_sound, holds, holder, is_in, position}
 use Rattle.rollcall_table.specs.Checks.{ordered_to, smaller_of, is_right, verdict_of}
 use Rattle.rollcall_table.proofs.Along.{below-after, below-before, ordered-all}
 use Rattle.rollcall_table.proofs.Counting.{live_within}
-use Rattle.rollcall_table.proofs.Soundness.{Parts, parts, sound}
+use Rattle.rollcall_table.proofs.Soundness.{Parts, sound}
 
 -- ---- the place of an address
 

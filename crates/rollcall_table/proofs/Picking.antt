@@ -1,5 +1,5 @@
 -- What a test that is passed, or failed, picks.
-use mathlib.Core.Path.{◌≡◌, refl, sym, ap, ◌∙◌}
+use mathlib.Core.Path.{◌≡◌, refl}
 use mathlib.Core.Bool.{Bool, true, false, cond}
 use Rattle.outcome.proofs.Laws.{never}
 

@@ -16,14 +16,14 @@ pub use standing::{beats, grade_number};
 const LARGEST: usize = 384;
 
 // An altitude in feet, or that there is none.
-#[derive(Drop)]
+#[derive(Clone, Copy)]
 pub enum Reading {
     Known(i32),
     Missing,
 }
 
 // How a reply was received, by the sensor's answer: clean, or corrected with the mark sole or several.
-#[derive(Drop)]
+#[derive(Clone, Copy)]
 pub enum Grade {
     Clean,
     Sole,
@@ -31,7 +31,7 @@ pub enum Grade {
 }
 
 // What is held of one aircraft; the time is in milliseconds. A record that is not live may hold anything.
-#[derive(Drop)]
+#[derive(Clone, Copy)]
 pub struct Record {
     pub live: bool,
     pub address: u32,
@@ -41,7 +41,7 @@ pub struct Record {
 }
 
 // A reply of an aircraft, as it is added or renewed.
-#[derive(Drop)]
+#[derive(Clone, Copy)]
 pub struct Sighting {
     pub address: u32,
     pub altitude: Reading,

@@ -1,13 +1,13 @@
 // What is decided about single records, and about the numbers that were counted along a table.
 ghost use Rattle.std.specs.Prelude.{suc, ◌-◌, ◌≡◌, not, ◌&&◌, eqb, ltb};
-ghost use Rattle.rollcall_table.specs.Table.{blank as blankRecord, one, is_next, right_lengths, holds as is_of, unmarked as unmarkedOf, record_of};
+ghost use Rattle.rollcall_table.specs.Table.{blank as blank_record, one, is_next, right_lengths, holds as is_of, unmarked as unmarked_of, record_of};
 ghost use Rattle.rollcall_table.specs.Checks.{smaller_of, is_right, verdict_of, raised_of};
 
 use crate::{Grade, LARGEST, Reading, Record, Sighting};
 
 // What stands where there is no record.
 pub fn blank() -> Record
-    ensures { result ≡ blankRecord }
+    ensures { result ≡ blank_record }
 {
     Record {
         live: false,
@@ -20,7 +20,7 @@ pub fn blank() -> Record
 
 // The record with its live mark unset.
 pub fn unmarked(r: Record) -> Record
-    ensures { result ≡ unmarkedOf r }
+    ensures { result ≡ unmarked_of r }
 {
     let altitude = r.altitude;
     let grade = r.grade;

@@ -4,19 +4,19 @@ ghost use Rattle.std.specs.Prelude.{◌<◌};
 use reading::after;
 use rollcall::{Grade, Reading};
 
-#[derive(Drop)]
+#[derive(Clone, Copy)]
 pub(crate) struct Number {
     pub(crate) fits: bool,
     pub(crate) value: u64,
 }
 
-#[derive(Drop)]
+#[derive(Clone, Copy)]
 pub(crate) struct Height {
     pub(crate) fits: bool,
     pub(crate) reading: Reading,
 }
 
-#[derive(Drop)]
+#[derive(Clone, Copy)]
 pub(crate) struct GradeRead {
     pub(crate) fits: bool,
     pub(crate) grade: Grade,

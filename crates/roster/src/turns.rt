@@ -118,7 +118,7 @@ pub(crate) fn with_taken(t: Turn, taken: usize) -> Turn
 
 // ---- the output buffer
 
-#[derive(Drop)]
+#[derive(Clone, Copy)]
 struct Room {
     taken: usize,
     written: bool,

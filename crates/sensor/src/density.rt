@@ -7,7 +7,7 @@ ghost use Rattle.sensor.specs.Verdicts.{dense_at, first_of, highest};
 ghost use Rattle.sensor.specs.Searching.{found_of, is_found, or_else};
 
 // A place, or none.
-#[derive(Drop)]
+#[derive(Clone, Copy)]
 pub(crate) enum Spot {
     Nowhere,
     At(u32),

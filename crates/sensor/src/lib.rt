@@ -22,14 +22,14 @@ mod reply;
 mod search;
 
 // Whether the correction applied was the only one possible.
-#[derive(Drop)]
+#[derive(Clone, Copy)]
 pub enum Mark {
     Sole,
     Several,
 }
 
 // A correction: the window that it was found in, the number of message bits inverted, and whether it was the only one.
-#[derive(Drop)]
+#[derive(Clone, Copy)]
 pub struct Correction {
     pub window: u32,
     pub bits: u32,
@@ -37,7 +37,7 @@ pub struct Correction {
 }
 
 // What the sensor says of a reply.
-#[derive(Drop)]
+#[derive(Clone, Copy)]
 pub enum Verdict {
     Clean,
     Dense(u32),

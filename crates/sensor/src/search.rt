@@ -13,7 +13,7 @@ use division::Word;
 
 // What the search holds: the pattern that the next window needs; how many changes fit, 2 for more than one; and the fit of
 // the lowest window so far, as its place and its pattern.
-#[derive(Drop)]
+#[derive(Clone, Copy)]
 pub(crate) struct Search {
     pub candidate: u32,
     pub changes: u32,

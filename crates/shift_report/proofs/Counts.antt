@@ -1,14 +1,14 @@
 -- Counting along the lines of a text: what is left at a place is the line there and what is left behind it.
-use mathlib.Core.Path.{◌≡◌, refl, ap, ◌∙◌}
+use mathlib.Core.Path.{◌≡◌, ap}
 use mathlib.Core.Bool.{Bool, true, false}
 use mathlib.Core.List.{List, [], ◌∷◌, map}
 use Prim.Native.Nat.{ℕ, ◌+◌, ◌-◌, ◌<◌, ◌≤◌}
 use native.Mathlib.Omega.{arith}
 use lib.ListN.{length, take, drop}
 use Rattle.text.specs.Ascii.{line_feed}
-use Rattle.reading.specs.Lines.{lines, before}
+use Rattle.reading.specs.Lines.{before}
 use Rattle.reading.proofs.Laws.{next-line, no_line_left}
-use Rattle.shift_report.specs.Tally.{Row, same_text, label, one, how_many}
+use Rattle.shift_report.specs.Tally.{same_text, label, one, how_many}
 use Rattle.shift_report.specs.Printed.{row_of, rows_in}
 
 pub one-le : (t : Bool) → one t ≤ 1

@@ -1,6 +1,6 @@
 -- What sift printed, read again: no column has a space and no line a line feed in it, since digits and words are above both,
 -- so the lines and columns of the text are those that were printed.
-use mathlib.Core.Path.{◌≡◌, refl, sym, ap, ap₂, ◌∙◌, subst}
+use mathlib.Core.Path.{◌≡◌, refl, sym, ap, ap₂, ◌∙◌}
 use mathlib.Core.Bool.{Bool, true, ◌&&◌, and-eq-true_iff}
 use mathlib.Core.List.{List, [], ◌∷◌, ◌++◌, map, append-nil}
 use Prim.Native.Nat.{ℕ, ◌+◌, ◌≤◌}
@@ -13,7 +13,7 @@ use Rattle.reading.specs.Lines.{lines, columns, before}
 use Rattle.reading.proofs.Laws.{column_alone, column_then, line_then, split_line, no_line_left}
 use Rattle.verdicts.specs.Columns.{lacking, spaced}
 use Rattle.verdicts.proofs.Laws.{spaced-nil, spaced-cons}
-use Rattle.report.specs.Sift.{answer_columns, output_lines, header, sift_output}
+use Rattle.report.specs.Sift.{answer_columns, output_lines, sift_output}
 use Rattle.report.proofs.Laws.{no_output, output_line_lem, output_read}
 use Rattle.shift_report.specs.Tally.{Row, rows}
 use Rattle.shift_report.specs.Printed.{behind, row_of, rows_in, printed_rows}

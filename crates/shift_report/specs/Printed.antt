@@ -1,6 +1,6 @@
 -- The rows of a text that sift printed, as they are counted there.
 use Rattle.std.specs.Prelude.{ℕ, ◌+◌, List, map, length, drop}
-use Rattle.text.specs.Ascii.{space, line_feed}
+use Rattle.text.specs.Ascii.{line_feed}
 use Rattle.reading.specs.Lines.{lines, columns, before}
 use Rattle.shift_report.specs.Tally.{Row}
 

@@ -3,7 +3,7 @@ ghost use Rattle.std.specs.Prelude.{◌≤◌, ◌≡◌, length, drop};
 ghost use Rattle.text.specs.Ascii.{space};
 ghost use Rattle.reading.specs.Lines.{columns, before};
 ghost use Rattle.shift_report.specs.Tally.{same_text, column_at, label, one as one_of, how_many};
-ghost use Rattle.shift_report.specs.Printed.{behind as behindOf, row_of, rows_in};
+ghost use Rattle.shift_report.specs.Printed.{behind as behind_of, row_of, rows_in};
 
 pub(crate) fn count_all(text: &[u8]) -> u32
     requires { length text.now ≤ 1572928 }
@@ -71,7 +71,7 @@ fn first(s: &[u8]) -> &[u8]
 }
 
 fn behind(s: &[u8]) -> &[u8]
-    ensures { result.now ≡ behindOf space s.now }
+    ensures { result.now ≡ behind_of space s.now }
 {
     reading::after(s, reading::find(s, 32))
 }

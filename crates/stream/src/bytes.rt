@@ -9,7 +9,7 @@ ghost use Rattle.stream.specs.Stream.{held, held_after_byte, printed_at_byte, he
 
 // What stands between two bytes, beside the bytes kept: the output's bytes so far, the lines that have ended, and how many
 // bytes are kept.
-#[derive(Drop)]
+#[derive(Clone, Copy)]
 pub(crate) struct Walk {
     pub taken: usize,
     pub ended: u64,

@@ -21,7 +21,7 @@ mod bytes;
 use bytes::Walk;
 
 // How many lines have ended, and of the line that has begun the first bytes of `kept`, as many as `size` says.
-#[derive(Drop)]
+#[derive(Clone, Copy)]
 pub struct State {
     pub ended: u64,
     pub kept: [u8; 68],
@@ -29,7 +29,7 @@ pub struct State {
 }
 
 // What a call leaves: the number of bytes at the start of the output buffer, the state, and whether the call was refused.
-#[derive(Drop)]
+#[derive(Clone, Copy)]
 pub struct Step {
     pub taken: usize,
     pub state: State,
@@ -37,7 +37,7 @@ pub struct Step {
 }
 
 // What the last call leaves: the number of bytes at the start of the output buffer, and whether the call was refused.
-#[derive(Drop)]
+#[derive(Clone, Copy)]
 pub struct Last {
     pub taken: usize,
     pub refused: bool,

@@ -12,7 +12,7 @@ use division::Word;
 
 // What a transponder makes of an interrogation: its own, an all-call, a broadcast, not its own with the address read, or
 // the number of the refusal.
-#[derive(Drop)]
+#[derive(Clone, Copy)]
 pub enum Reception {
     Own,
     AllCall,

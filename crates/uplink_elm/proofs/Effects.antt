@@ -14,7 +14,7 @@ use Rattle.outcome.proofs.Laws.{never, refusal_is_no_answer}
 use Rattle.message.specs.Message.{number, format_number, first_bit_agrees}
 use Rattle.message.proofs.Laws.{long_by_first_bit}
 use Rattle.division.specs.Division.{address_read}
-use Rattle.transponder.specs.Receptions.{reception_of, reception_outcome, said as saidReception}
+use Rattle.transponder.specs.Receptions.{reception_of, reception_outcome, said as said_reception}
 use Rattle.transponder.specs.declared.Reception.{Reception}
 use Rattle.transponder.specs.declared.Reception.TheVariants as R
 use Rattle.transponder.proofs.Laws.{admitted}
@@ -146,13 +146,13 @@ not_ours_said a p q e = ap (λ (k : Progress). said (A.NotOurs a k)) e
 -- ---- what is known of a segment's message
 
 -- an answer with the number of 'own' is 'own'
-pub own_answer : (own : ℕ) (m : List ℕ) → is_own (reception_outcome own m) ≡ true → saidReception R.Own ≡ reception_outcome own m
+pub own_answer : (own : ℕ) (m : List ℕ) → is_own (reception_outcome own m) ≡ true → said_reception R.Own ≡ reception_outcome own m
 own_answer own m e = by (reception_of own (address_read (number m)) (format_number m)) (admitted own m unrefused).outcome
   where
     unrefused : Unrefused (reception_outcome own m)
     unrefused n k = never e (ap is_own k)
 
-    by : (a : Reception) → reception_outcome own m ≡ saidReception a → saidReception R.Own ≡ reception_outcome own m
+    by : (a : Reception) → reception_outcome own m ≡ said_reception a → said_reception R.Own ≡ reception_outcome own m
     by R.Own p = sym p
     by R.AllCall p = absurd (never e (ap is_own p))
     by R.Broadcast p = absurd (never e (ap is_own p))
@@ -164,7 +164,7 @@ pub long_format : (m : List ℕ) → first_bit_agrees m ≡ true → is_extended
 unfolding is_extended
 long_format m h e = let three : get_or m 0 0 / 2 ^ 6 ≡ 3 = eqb-true (get_or m 0 0 / 2 ^ 6) 3 e in long_by_first_bit m h (omega arith)
 
-pub long_message : (own : ℕ) (m : List ℕ) → saidReception R.Own ≡ reception_outcome own m → is_extended m ≡ true → length m ≡ 14
+pub long_message : (own : ℕ) (m : List ℕ) → said_reception R.Own ≡ reception_outcome own m → is_extended m ≡ true → length m ≡ 14
 long_message own m h e = long_format m (admitted own m (λ n k. refusal_is_no_answer (sym k ∙ sym h))).first_bit_agreeing e
 
 -- format, RC and NC go by the first byte

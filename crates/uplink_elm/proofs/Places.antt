@@ -2,12 +2,12 @@
 -- the ten that are written is the one before, by its index.
 use mathlib.Core.Path.{◌≡◌, refl, sym, ap, ap₂, ◌∙◌, subst}
 use mathlib.Core.Bool.{Bool, true, false}
-use mathlib.Core.List.{List, [], ◌∷◌, ◌++◌, append-nil}
+use mathlib.Core.List.{List, [], ◌∷◌, ◌++◌}
 use Prim.Native.Nat.{ℕ, ◌+◌, ◌-◌, ◌*◌, ◌<◌, ◌≤◌}
 use native.Mathlib.Omega.{arith}
 use lib.Dec.{ltb}
-use lib.ListN.{length, get_or, take, drop, length-append, length-drop, drop_of_length-le, get_or-append}
-use lib.Seq.{take-length, length-take-le, take_at, drop_at, get_or-take, get_or-drop, get_or-append-add, ext_get_or}
+use lib.ListN.{length, get_or, take, drop, length-append, length-drop, get_or-append}
+use lib.Seq.{length-take-le, take_at, drop_at, get_or-take, get_or-drop, get_or-append-add, ext_get_or}
 use borrow.Author.Tests.{ltb-true, ltb-false}
 use borrow.Rule.Slice.PartMut.{put_mid, Post-is}
 use Rattle.outcome.proofs.Laws.{positive}
@@ -17,29 +17,15 @@ use Rattle.uplink_elm.specs.Segments.{segment, segment_at, stored}
 
 -- ---- the copy of a segment
 
--- what comes back from `bytes::copy` where the two have one length
-pub copied : (k : ℕ) (src dst ys : List ℕ) → k ≡ length src → length dst ≤ length src → ys ≡ take k src ++ drop k dst → ys ≡ src
-copied k src dst ys e h f =
-    f ∙ ap (λ (n : ℕ). take n src ++ drop n dst) e
-    ∙ ap₂ ◌++◌ (take-length src) (drop_of_length-le dst h) ∙ append-nil src
-
 pub part_length : (a n : ℕ) (l : List ℕ) → a + n ≤ length l → length (take n (drop a l)) ≡ n
 part_length a n l h = length-take-le n (drop a l) (omega (arith, length-drop a l))
 
 -- ten bytes of the message, copied to the ten bytes from place n on
-pub put-segment : (n : ℕ) (m s ys : List ℕ) (k : ℕ) → n < 16 → length m ≡ 14 → length s ≡ 160 → k ≡ length (take 10 (drop 1 m))
-    → ys ≡ take k (take 10 (drop 1 m)) ++ drop k (take (n * 10 + 10 - n * 10) (drop (n * 10) s))
-    → put_mid (n * 10) (n * 10 + 10 - n * 10) s ys ≡ stored n (segment m) s
+pub put-segment : (n : ℕ) (m s ys : List ℕ) → ys ≡ take 10 (drop 1 m) → put_mid (n * 10) (n * 10 + 10 - n * 10) s ys ≡ stored n (segment m) s
 unfolding stored segment
-put-segment n m s ys k hn hm hs e f =
+put-segment n m s ys f =
     ap (λ (t : List ℕ). take (n * 10) s ++ (ys ++ t)) (Post-is (n * 10) (n * 10 + 10) s (omega arith))
-    ∙ ap (λ (b : List ℕ). take (n * 10) s ++ (b ++ drop (n * 10 + 10) s)) (copied k (take 10 (drop 1 m)) _ ys e short f)
-  where
-    short : length (take (n * 10 + 10 - n * 10) (drop (n * 10) s)) ≤ length (take 10 (drop 1 m))
-    short =
-        let x = part_length (n * 10) (n * 10 + 10 - n * 10) s (omega arith) in
-        let y = part_length 1 10 m (omega arith) in
-        omega arith
+    ∙ ap (λ (b : List ℕ). take (n * 10) s ++ (b ++ drop (n * 10 + 10) s)) f
 
 -- ---- a segment stored
 

@@ -13,7 +13,7 @@ use Rattle.outcome.specs.Refusals.{nothing_opened, number_above_last}
 use Rattle.outcome.proofs.Laws.{never, both, refusal_is_no_answer}
 use Rattle.message.specs.Message.{number, format_number}
 use Rattle.division.specs.Division.{address_read}
-use Rattle.transponder.specs.Receptions.{reception_of, reception_outcome, said as saidReception}
+use Rattle.transponder.specs.Receptions.{reception_of, reception_outcome, said as said_reception}
 use Rattle.transponder.specs.declared.Reception.TheVariants as R
 use Rattle.transponder.proofs.Laws.{admitted}
 use Rattle.uplink_elm.specs.declared.Receiver.{Receiver}
@@ -88,7 +88,7 @@ is_above_lem c n r = (to c, from c)
     from c (inl e, o, l) = ap (λ (x : ℕ). is_above x n r) e ∙ back o l
     from c (inr e, o, l) = ap (λ (x : ℕ). is_above x n r) e ∙ back o l
 
-pub of_own_lem : (own : ℕ) (m : List ℕ) (t : Bool) → (of_own own m t ≡ true) ↔ ((reception_outcome own m ≡ saidReception R.Own) × (is_extended m ≡ true) × (t ≡ true))
+pub of_own_lem : (own : ℕ) (m : List ℕ) (t : Bool) → (of_own own m t ≡ true) ↔ ((reception_outcome own m ≡ said_reception R.Own) × (is_extended m ≡ true) × (t ≡ true))
 of_own_lem own m t = (
   (λ e.
       let p = both (is_own (reception_outcome own m)) (is_extended m && t) e in
@@ -143,7 +143,7 @@ module _ (own : ℕ) (m : List ℕ) (r : Receiver) where
 
   -- the transponder's refusals, then rows 10 and 11, then the transponder's answer with the progress
   pub by-reception : onward (reception_outcome own m)
-      (two_rows (unopened own m r) (above own m r) (with_progress (saidReception (reception_of own (address_read (number m)) (format_number m))) (progress_of (receiver_after own m r))))
+      (two_rows (unopened own m r) (above own m r) (with_progress (said_reception (reception_of own (address_read (number m)) (format_number m))) (progress_of (receiver_after own m r))))
       ≡ receiving_outcome own m r
   unfolding receiving_outcome call_effect
   by-reception = by (reception_outcome own m) refl
@@ -152,7 +152,7 @@ module _ (own : ℕ) (m : List ℕ) (r : Receiver) where
       rows o = two_rows (unopened own m r) (above own m r) (with_progress o (progress_of (receiver_after own m r)))
 
       by : (x : Outcome) → reception_outcome own m ≡ x
-          → onward x (rows (saidReception (reception_of own (address_read (number m)) (format_number m)))) ≡ outcome_of (call_effect own m r) (reception_outcome own m) r
+          → onward x (rows (said_reception (reception_of own (address_read (number m)) (format_number m)))) ≡ outcome_of (call_effect own m r) (reception_outcome own m) r
       by (refusal n) e = sym (ap (λ (q : Outcome). outcome_of (cond (is_own q) (own_effect m r) Nothing) q r) e)
       by (answer n vs) e =
           ap rows (sym (admitted own m (λ k f. refusal_is_no_answer (sym f ∙ e))).outcome) ∙ behind (reception_outcome own m)

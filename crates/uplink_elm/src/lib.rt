@@ -10,7 +10,7 @@ mod control;
 mod holding;
 
 ghost use Rattle.std.specs.Prelude.{◌<◌, ◌≡◌, true, length};
-ghost use Rattle.transponder.specs.Receptions.{said as saidReception};
+ghost use Rattle.transponder.specs.Receptions.{said as said_reception};
 ghost use Rattle.transponder.specs.declared.Reception.TheVariants.{Own};
 ghost use Rattle.uplink_elm.specs.Segments.{is_extended, segment, stored};
 ghost use Rattle.uplink_elm.specs.Receiving.{said, fresh_receiver, opening_effect, adding_effect, effect_of, own_effect, receiver_of, segments_of, outcome_of, receiving_outcome, receiver_after, segments_after};
@@ -20,7 +20,7 @@ use transponder::Reception;
 
 // Whether a message is opened, the number of its last segment, and the segments held: a bit for each of 16 numbers, the top
 // one for 0.
-#[derive(Drop)]
+#[derive(Clone, Copy)]
 pub struct Receiver {
     pub opened: bool,
     pub last: u8,
@@ -28,14 +28,14 @@ pub struct Receiver {
 }
 
 // How far a message has come: the acknowledgement, and whether all its segments are held.
-#[derive(Drop)]
+#[derive(Clone, Copy)]
 pub struct Progress {
     pub acknowledgement: u16,
     pub whole: bool,
 }
 
 // The transponder's answer with the progress, or the number of the refusal.
-#[derive(Drop)]
+#[derive(Clone, Copy)]
 pub enum Answer {
     Own(Progress),
     AllCall(Progress),
@@ -45,7 +45,7 @@ pub enum Answer {
 }
 
 // What a call gives: its answer, and the receiver after it.
-#[derive(Drop)]
+#[derive(Clone, Copy)]
 pub struct Received {
     pub answer: Answer,
     pub receiver: Receiver,
@@ -53,7 +53,7 @@ pub struct Received {
 
 // What an interrogation of format 24 does: it is refused, changes nothing, or stores its segment and leaves this receiver. No
 // public function gives one; it is public for the proofs about lists of calls.
-#[derive(Drop)]
+#[derive(Clone, Copy)]
 pub enum Effect {
     Refused(u32),
     Nothing,
@@ -96,7 +96,7 @@ pub fn receive(own: u32, m: &[u8], receiver: Receiver, segments: &mut [u8; 160])
 // An interrogation that is read as the own address.
 fn receive_own(m: &[u8], receiver: Receiver, segments: &mut [u8; 160]) -> Received
     requires { is_extended m.now ≡ true → length m.now ≡ 14 }
-    ensures answer_value { said result.answer ≡ outcome_of (own_effect m.now receiver) (saidReception Own) receiver }
+    ensures answer_value { said result.answer ≡ outcome_of (own_effect m.now receiver) (said_reception Own) receiver }
     ensures receiver_value { result.receiver ≡ receiver_of (own_effect m.now receiver) receiver }
     ensures segments_after { segments.new ≡ segments_of (own_effect m.now receiver) m.now segments.old }
 {

@@ -18,7 +18,7 @@ use Rattle.uplink_elm.specs.declared.Progress.{Progress}
 use Rattle.uplink_elm.specs.Segments.{segment_number, segment, is_held, segment_at}
 use Rattle.uplink_elm.specs.Receiving.{receiving_outcome}
 use Rattle.uplink_elm.proofs.Laws.{nothing_held, segment-at-length}
-use Rattle.uplink_elm_meaning.specs.Machine.{Machine, Step, storing, does, is_some, acknowledgement, resulting, showing, machine_after, machine_outcome}
+use Rattle.uplink_elm_meaning.specs.Machine.{Machine, Step, storing, does, is_some, resulting, showing, machine_after, machine_outcome}
 use Rattle.uplink_elm_meaning.specs.Machine.Step.{becomes}
 use Rattle.uplink_elm_meaning.specs.Running.{State, after}
 use Rattle.uplink_elm_meaning.proofs.Laws.{Good, same_numbers, same-progress, same_outcome, good-after, opened_with, adds_to, asking_adds, sealed-step, sealed-shows}
@@ -114,14 +114,14 @@ module _ (g : Setting) (ok : Allowed g) where
       by i true e = ap (λ (x : ℕ). some (segment_at g.segments x)) (sym (eqb-true i j e))
       by i false e = refl
 
-  withSegments : (ℕ → Option (List ℕ)) → Machine
-  withSegments f = record { opened = true; last = count g - 1; segments = f }
+  with_segments : (ℕ → Option (List ℕ)) → Machine
+  with_segments f = record { opened = true; last = count g - 1; segments = f }
 
   adds : (j : ℕ) (h : Numbers) → j < count g → does 1 j (segment_at g.segments j) (machine_of h) ≡ becomes (machine_of (with j h))
-  unfolding machine_of withSegments
+  unfolding machine_of with_segments
   adds j h lt =
       adds_to j (segment_at g.segments j) (machine_of h) refl (omega (arith, lt))
-      ∙ ap (λ (f : ℕ → Option (List ℕ)). becomes (withSegments f)) (stored-as j h)
+      ∙ ap (λ (f : ℕ → Option (List ℕ)). becomes (with_segments f)) (stored-as j h)
 
   added : (j : ℕ) (h : Numbers) → j < count g → machine_after g.own (transmission g.own 1 j (segment_at g.segments j)) (machine_of h) ≡ machine_of (with j h)
   added j h lt = steps 1 j (lit< tt) lt (machine_of h) ∙ ap (λ (p : Step). resulting p (machine_of h)) (adds j h lt)
@@ -158,7 +158,7 @@ module _ (g : Setting) (ok : Allowed g) where
       told false = refl
 
   pub opened-stands : (t : State) (m : Machine) → Good t m → Stands (opened g t) (with (count g - 1) empty) empty
-  unfolding opened machine_of withSegments
+  unfolding opened machine_of with_segments
   opened-stands t m q = record {
     good = subst (Good _) is (good-after g.own (opening_after g.own g.segments (g.buffer 14)) t m q);
     given = nothing_held;
@@ -168,7 +168,7 @@ module _ (g : Setting) (ok : Allowed g) where
       is =
           ap (λ (l : List ℕ). machine_after g.own l m) opening-is ∙ steps 0 (count g - 1) (lit< tt) last-lt m
           ∙ opened_with (count g - 1) (segment_at g.segments (count g - 1)) m (λ z. omega (arith, z, ok.two-or_more))
-          ∙ ap withSegments (stored-as (count g - 1) empty)
+          ∙ ap with_segments (stored-as (count g - 1) empty)
 
   exchanged-stands : (t : State) (h : Numbers) → Good t (machine_of h) → Stands (exchanged g t) (with (count g - 1) h) (with (count g - 1) h)
   unfolding exchanged

@@ -6,7 +6,7 @@ use mathlib.Core.List.{List, [], ◌∷◌, ◌++◌, append-nil, append_assoc}
 use Prim.Native.Nat.{ℕ, suc, ◌+◌, ◌-◌, ◌*◌, ◌/◌, ◌^◌, ◌<◌, ◌≤◌}
 use native.Mathlib.Omega.{arith}
 use lib.Bits.{bit_xor}
-use lib.ListN.{length, get_or, set, take, drop, length-append, length-drop, length-set}
+use lib.ListN.{length, get_or, set, take, drop, length-append, length-drop}
 use lib.Seq.{take_at, take_all, length-take-le}
 use borrow.Rule.Slice.PartMut.{put_mid, Post-is}
 use Rattle.outcome.specs.Outcomes.{done}
@@ -16,7 +16,7 @@ use Rattle.division.specs.Division.{parity, overlay}
 use Rattle.encoder.specs.Seals.{seal_outcome, interrogation_after}
 use Rattle.encoder.proofs.Laws.{accepted, interrogation_after_lem, interrogation_is, sealed-length, seal_by_field}
 use Rattle.uplink_elm.specs.Segments.{is_extended, reply_control, segment_number, segment, segment_at}
-use Rattle.uplink_elm.proofs.Laws.{segment-at, segment-at-length, segment_of, copied, part_length, parts_of}
+use Rattle.uplink_elm.proofs.Laws.{segment-at, segment-at-length, segment_of, parts_of}
 use Rattle.uplink_elm_sending.specs.Sending.{unsealed, transmission, transmissions, segment_count, last_numbers}
 
 -- ---- one transmission
@@ -30,21 +30,21 @@ sealable m address control n ha hc hn long first =
 
 module _ (control n : ℕ) (s : List ℕ) (ten : length s ≡ 10) where
   -- the same with any three bytes in place of the parity field
-  withField : List ℕ → List ℕ
-  withField rest = (192 + 16 * control + n) ∷ (s ++ rest)
+  with_field : List ℕ → List ℕ
+  with_field rest = (192 + 16 * control + n) ∷ (s ++ rest)
 
-  long-with : (rest : List ℕ) → length rest ≡ 3 → length (withField rest) ≡ 14
-  unfolding withField
+  long-with : (rest : List ℕ) → length rest ≡ 3 → length (with_field rest) ≡ 14
+  unfolding with_field
   long-with rest three = ap suc (length-append s rest ∙ ap₂ ◌+◌ ten three)
 
-  field-with : (rest : List ℕ) → length rest ≡ 3 → field (withField rest) ≡ (192 + 16 * control + n) ∷ s
-  unfolding withField
+  field-with : (rest : List ℕ) → length rest ≡ 3 → field (with_field rest) ≡ (192 + 16 * control + n) ∷ s
+  unfolding with_field
   field-with rest three =
-      field_is (withField rest) ∙ ap (λ (k : ℕ). take (k - 3) (withField rest)) (long-with rest three)
+      field_is (with_field rest) ∙ ap (λ (k : ℕ). take (k - 3) (with_field rest)) (long-with rest three)
       ∙ ap (λ (l : List ℕ). (192 + 16 * control + n) ∷ l) (take_at s rest 10 ten)
 
-  unsealed-is : unsealed control n s ≡ withField (0 ∷ 0 ∷ 0 ∷ [])
-  unfolding unsealed withField
+  unsealed-is : unsealed control n s ≡ with_field (0 ∷ 0 ∷ 0 ∷ [])
+  unfolding unsealed with_field
   unsealed-is = refl
 
   pub unsealed-parts : control < 4 → n < 16
@@ -65,15 +65,15 @@ module _ (control n : ℕ) (s : List ℕ) (ten : length s ≡ 10) where
 
     module _ (ha : address < 2 ^ 24) (hc : control < 4) (hn : n < 16) where
       -- what the seal leaves of such a message
-      sealed-with : (rest : List ℕ) → length rest ≡ 3 → interrogation_after (withField rest) address ≡ transmission address control n s
-      unfolding transmission withField
+      sealed-with : (rest : List ℕ) → length rest ≡ 3 → interrogation_after (with_field rest) address ≡ transmission address control n s
+      unfolding transmission with_field
       sealed-with rest three =
-          interrogation_after_lem (withField rest) address (sealable (withField rest) address control n ha hc hn (long-with rest three) refl)
-          ∙ seal_by_field (withField rest) (unsealed control n s) address (field-with rest three ∙ sym (ap field unsealed-is ∙ field-with (0 ∷ 0 ∷ 0 ∷ []) refl))
+          interrogation_after_lem (with_field rest) address (sealable (with_field rest) address control n ha hc hn (long-with rest three) refl)
+          ∙ seal_by_field (with_field rest) (unsealed control n s) address (field-with rest three ∙ sym (ap field unsealed-is ∙ field-with (0 ∷ 0 ∷ 0 ∷ []) refl))
 
       -- 'it writes sealed interrogations': the seal is not refused, and leaves this
       pub transmission-sealed : (seal_outcome (unsealed control n s) address ≡ done) × (transmission address control n s ≡ interrogation_after (unsealed control n s) address)
-      unfolding withField
+      unfolding with_field
       transmission-sealed = (
         sealable (unsealed control n s) address control n ha hc hn (ap length unsealed-is ∙ long-with (0 ∷ 0 ∷ 0 ∷ []) refl) (ap (λ (l : List ℕ). get_or l 0 0) unsealed-is),
         sym (ap (λ (m : List ℕ). interrogation_after m address) unsealed-is ∙ sealed-with (0 ∷ 0 ∷ 0 ∷ []) refl),
@@ -83,8 +83,8 @@ module _ (control n : ℕ) (s : List ℕ) (ten : length s ≡ 10) where
 
 -- the first byte set, and ten bytes copied behind it
 put-field : (control n : ℕ) (s : List ℕ) (ten : length s ≡ 10) (out ys : List ℕ) → length out ≡ 14 → ys ≡ s
-    → put_mid 1 10 (set out 0 (192 + 16 * control + n)) ys ≡ withField control n s ten (drop 11 out)
-unfolding withField
+    → put_mid 1 10 (set out 0 (192 + 16 * control + n)) ys ≡ with_field control n s ten (drop 11 out)
+unfolding with_field
 put-field control n s ten [] ys h e = absurd (omega arith)
 put-field control n s ten (x ∷ out) ys h e =
     ap₂ (λ (a b : List ℕ). (192 + 16 * control + n) ∷ (a ++ b)) e (Post-is 1 11 ((192 + 16 * control + n) ∷ out) (omega arith))
@@ -94,13 +94,12 @@ module _ (control n address : ℕ) (segments : List ℕ) (hc : control < 3) (hn 
   ten = segment-at-length segments n fits
 
   -- what comes back from the copy, and what the seal makes of it
-  pub transmitted : (out ys sealed : List ℕ) (k from to : ℕ) → length out ≡ 14 → from ≡ n * 10 → to ≡ from + 10
-      → k ≡ length (take (to - from) (drop from segments))
-      → ys ≡ take k (take (to - from) (drop from segments)) ++ drop k (take 10 (drop 1 (set out 0 (192 + 16 * control + n))))
+  pub transmitted : (out ys sealed : List ℕ) (from to : ℕ) → length out ≡ 14 → from ≡ n * 10 → to ≡ from + 10
+      → ys ≡ take (to - from) (drop from segments)
       → sealed ≡ interrogation_after (put_mid 1 10 (set out 0 (192 + 16 * control + n)) ys) address
       → sealed ≡ transmission address control n (segment_at segments n)
-  transmitted out ys sealed k from to long ef et ek ey es =
-      es ∙ ap (λ (m : List ℕ). interrogation_after m address) (put-field control n (segment_at segments n) ten out ys long (came ∙ is))
+  transmitted out ys sealed from to long ef et ey es =
+      es ∙ ap (λ (m : List ℕ). interrogation_after m address) (put-field control n (segment_at segments n) ten out ys long (ey ∙ is))
       ∙ sealed-with control n (segment_at segments n) ten address ha (omega arith) hn (drop 11 out) (length-drop 11 out ∙ omega (arith, long))
     where
       size : to - from ≡ 10
@@ -108,15 +107,6 @@ module _ (control n address : ℕ) (segments : List ℕ) (hc : control < 3) (hn 
 
       is : take (to - from) (drop from segments) ≡ segment_at segments n
       is = ap₂ (λ (x y : ℕ). take x (drop y segments)) size ef ∙ sym (segment-at segments n)
-
-      part : length (take 10 (drop 1 (set out 0 (192 + 16 * control + n)))) ≤ length (take (to - from) (drop from segments))
-      part =
-          let here : length (take 10 (drop 1 (set out 0 (192 + 16 * control + n)))) ≡ 10 =
-          part_length 1 10 (set out 0 (192 + 16 * control + n)) (omega (arith, length-set out 0 (192 + 16 * control + n))) in
-          omega (arith, here, ap length is, ten)
-
-      came : ys ≡ take (to - from) (drop from segments)
-      came = copied k (take (to - from) (drop from segments)) _ ys ek part ey
 
 -- ---- several
 

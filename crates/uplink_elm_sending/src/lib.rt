@@ -12,7 +12,7 @@ ghost use Rattle.uplink_elm.specs.Segments.{segment_at};
 ghost use Rattle.uplink_elm_sending.specs.Sending.{said, transmission, transmissions, round_numbers, segment_count, is_round_size, is_segmented, last_outcome, round_outcome, opening_after, exchange_after, last_after, round_after};
 
 // The number of transmissions written, or the number of the refusal.
-#[derive(Drop)]
+#[derive(Clone, Copy)]
 pub enum Sending {
     Sent(usize),
     Refused(u32),

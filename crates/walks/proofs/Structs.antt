@@ -1,24 +1,26 @@
--- A declared struct that is one machine value, as the rules take it: that it is Copy, and its kinds as a parameter and as a result.
+-- A declared struct that is one machine value, as the rules take it: that it is Copy, the laws of a `&` to it, and its kinds as a parameter and as a result.
 -- Assumes nothing.
-use mathlib.Core.Path.{refl}
 use Prim.Native.Nat.{ℕ}
 use seplogic.Ra.Ura.{Ura}
 use types.Logic.{Logic}
 use denote.Exit.{yes}
-use denote.RattleType.{RattleType}
+use denote.RattleType.{RowLaws}
 use denote.Struct.Declared.{Declared, row, fields}
 use denote.Struct.Struct.{Plains}
 use denote.Struct.Laws as L
 use borrow.Fn.Kind.{ParamKind, ResultKind}
 use borrow.Kind.Value.{Valued, ValuedLaws, p_val, r_val}
 use borrow.Rule.Local.{mem_whole, whole_mem}
-use borrow.Table.Copies.{Cp, c_struct}
+use borrow.Table.Copies.{Cp, c_struct, parts_laws}
 use borrow.Table.OneValue.{One}
 use borrow.Table.Rows.{whole}
 
 module _ (T : Declared) (laws : L.Laws T) (copy : L.Copyables T.parts) where
   abbrev pub copy_of : Cp (row T)
   copy_of = c_struct T laws copy
+
+  abbrev pub laws_of : RowLaws (row T)
+  laws_of = parts_laws T (L.copy_row_laws T.parts copy)
 
   module _ (plain : Plains (fields T)) (one : One (row T)) where
     abbrev valued : Valued
@@ -42,8 +44,8 @@ module _ (T : Declared) (laws : L.Laws T) (copy : L.Copyables T.parts) where
       of_mem = whole_mem 𝓛 (row T);
     }
 
-    abbrev pub paramOf : {n : ℕ} → ParamKind n
-    paramOf = p_val valued lawful
+    abbrev pub param_of : {n : ℕ} → ParamKind n
+    param_of = p_val valued lawful
 
     abbrev pub result_of : {n : ℕ} → ResultKind n
     result_of = r_val valued lawful

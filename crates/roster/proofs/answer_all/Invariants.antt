@@ -1,5 +1,5 @@
--- Each line passes a byte at least, so its number is no more than what is passed.
-use Rattle.std.proofs.Common.{length, ◌-◌, ◌≤◌}
+-- Each turn lends the parts of the two arrays that the table has, and passes at least one byte of the input.
+use Rattle.std.proofs.Common.{◌-◌, ◌≤◌, length}
 use Rattle.roster.proofs.answer_all.Given as goal
 
 abbrev pub invariant-loop-records : goal.invariant-loop-records

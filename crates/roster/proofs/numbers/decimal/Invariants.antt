@@ -1,4 +1,5 @@
-use Rattle.std.proofs.Common.{length, ◌-◌}
+-- It goes along the digits.
+use Rattle.std.proofs.Common.{◌-◌, length}
 use Rattle.roster.proofs.numbers.decimal.Given as goal
 
 abbrev pub decreases-loop-i : goal.decreases-loop-i

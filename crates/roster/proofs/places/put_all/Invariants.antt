@@ -1,3 +1,4 @@
+-- It goes along the places that are printed.
 use Rattle.std.proofs.Common.{◌-◌}
 use Rattle.roster.proofs.places.put_all.Given as goal
 

@@ -1,3 +1,4 @@
+-- It goes along the records that are printed.
 use Rattle.std.proofs.Common.{◌-◌}
 use Rattle.roster.proofs.table.put_all.Given as goal
 

@@ -1,0 +1,16 @@
+use Rattle.std.proofs.Common.{◌+◌, ◌≤◌, List, ℕ, length, get_or, sym, ◌∙◌, arith, length-set}
+use Rattle.rollcall_plans.proofs.Laws.{close_next, close_end}
+use Rattle.rollcall.proofs.places.close_up.Goals as goal
+
+pub loop-i-preserved : goal.loop-i-preserved
+loop-i-preserved c =
+    let l = c.loop-i in
+    let ps : List ℕ = l.places in
+    let within : c.args.end ≤ length ps = omega (arith, l.invariant.same, c.requires.1) in record {
+      within = omega arith;
+      same = length-set ps l.i (get_or ps (l.i + 1) 0) ∙ l.invariant.same;
+      left = sym (close_next ps l.i c.args.end c.loop-i-test.true within) ∙ l.invariant.left;
+    }
+
+pub returns : goal.returns
+returns c = sym (close_end c.loop-i.places c.loop-i.i _ c.loop-i-test.false) ∙ c.loop-i.invariant.left
