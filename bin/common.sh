@@ -33,7 +33,7 @@ prove_and_try() ( # CRATE
 crates_of_program() {
     awk -v name="$name" '
         { sub(/#.*/, ""); at = index($0, ":") }
-        at { crate = substr($0, 1, at - 1); gsub(/[ \t]/, "", crate); needs[crate] = substr($0, at + 1) }
+        at { split(substr($0, 1, at - 1), words, " "); needs[words[1]] = substr($0, at + 1) }
         function take(crate, count, parts, k) {
             if (!(crate in needs) || crate in taken) return
             taken[crate] = 1

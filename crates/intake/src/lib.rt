@@ -40,3 +40,65 @@ pub fn read_full<R: Read>(input: &mut R, buf: &mut [u8]) -> Filled
         failed: false,
     }
 }
+
+#[cfg(test)]
+mod tests {
+    use super::*;
+    use std::io;
+    use std::io::ErrorKind;
+    use std::test::Fail;
+
+    // Gives a byte at each read, and fails once they are used up.
+    #[derive(Drop)]
+    struct Dripping {
+        left: u8,
+    }
+
+    impl Read for Dripping {
+        fn read(&mut self, buf: &mut [u8]) -> io::Result<usize> {
+            if self.left == 0 {
+                return Err(io::Error::from(ErrorKind::Other));
+            }
+            if buf.is_empty() {
+                return Ok(0);
+            }
+            buf[0] = self.left;
+            self.left -= 1;
+            Ok(1)
+        }
+    }
+
+    #[test]
+    fn reads_to_the_end(rt: HostRuntime) -> Result<(), Fail> {
+        let mut input: &[u8] = b"abc";
+        let mut buf = [0u8; 5];
+        let read = read_full(&mut input, &mut buf);
+        assert_eq!(rt; read.size, 3);
+        assert!(rt; !read.failed);
+        assert_eq!(rt; buf, [97, 98, 99, 0, 0]);
+        Ok(())
+    }
+
+    #[test]
+    fn stops_where_the_buffer_is_full(rt: HostRuntime) -> Result<(), Fail> {
+        let mut input = Dripping { left: 3 };
+        let mut buf = [0u8; 2];
+        let read = read_full(&mut input, &mut buf);
+        assert_eq!(rt; read.size, 2);
+        assert!(rt; !read.failed);
+        assert_eq!(rt; buf, [3, 2]);
+        assert_eq!(rt; input.left, 1);
+        Ok(())
+    }
+
+    #[test]
+    fn says_that_a_read_failed(rt: HostRuntime) -> Result<(), Fail> {
+        let mut input = Dripping { left: 2 };
+        let mut buf = [0u8; 4];
+        let read = read_full(&mut input, &mut buf);
+        assert_eq!(rt; read.size, 2);
+        assert!(rt; read.failed);
+        assert_eq!(rt; buf, [2, 1, 0, 0]);
+        Ok(())
+    }
+}
