@@ -32,8 +32,8 @@ ReplyBits =
     → (parity_bit i (reply_seal m w) ≡ bit_xor (coefficient (24 - i) (remainder_of_field m)) (coefficient (24 - i) w))
     × (field (reply_seal m w) ≡ field m)
 
--- 'Interrogation seal for address A: parity field = R + the coefficients x^47 to x^24 of A-as-G, in that order' (ATC-117, 3-1
--- to 3-3; Annex 10 Volume IV): overlay bit i is the coefficient of x^(48−i) of A-as-G.
+-- 'Interrogation seal for address A: parity field = R + the coefficients x^47 to x^24 of A·G, in that order' (ATC-117, 3-1
+-- to 3-3; Annex 10 Volume IV): overlay bit i is the coefficient of x^(48−i) of A·G.
 unfoldable pub InterrogationBits : Type 0
 InterrogationBits =
     (m : List ℕ) (a i : ℕ) → Message m → a < 2 ^ 24 → 1 ≤ i → i ≤ 24

@@ -129,7 +129,7 @@ pub parity_is : (m : ℕ) → parity m ≡ remainder (m * 2 ^ 24)
 unfolding parity
 parity_is m = refl
 
--- coefficient j of the overlay is coefficient 24 + j of A-as-G
+-- coefficient j of the overlay is coefficient 24 + j of A·G
 pub overlay-coefficient : (a j : ℕ) → j < 24 → overlay a / 2 ^ j % 2 ≡ product a generator / 2 ^ (24 + j) % 2
 unfolding overlay
 overlay-coefficient a j h =

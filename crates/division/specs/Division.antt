@@ -45,7 +45,7 @@ backward r = bit_xor r (r % 2 * generator) / 2
 unfoldable pub parity : ℕ → ℕ
 parity m = remainder (m * 2 ^ 24)
 
--- The address function of an interrogation: the coefficients x^47 to x^24 of A-as-G (ATC-117, 3-1 and 3-2; Annex 10
+-- The address function of an interrogation: the coefficients x^47 to x^24 of A·G (ATC-117, 3-1 and 3-2; Annex 10
 -- Volume IV, the overlay of uplink formats).
 unfoldable pub overlay : ℕ → ℕ
 overlay a = product a generator / 2 ^ 24 % 2 ^ 24

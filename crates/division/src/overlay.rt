@@ -6,7 +6,7 @@ ghost use Rattle.division.specs.Answers.{said, overlay_answer};
 use crate::Word;
 use message::is_word;
 
-// The coefficients x^47 to x^24 of A.G.
+// The coefficients x^47 to x^24 of A·G.
 pub fn uplink_overlay(a: u32) -> Word
     ensures { said result ≡ overlay_answer a }
 {

@@ -21,7 +21,7 @@ with_parity m p = field m ++ word_bytes p
 unfoldable pub reply_parity : List ℕ → ℕ → ℕ
 reply_parity f w = bit_xor (parity (number f)) w
 
--- The parity field of an interrogation for the address A: R + the coefficients x^47 to x^24 of A-as-G (ATC-117, 3-1 to
+-- The parity field of an interrogation for the address A: R + the coefficients x^47 to x^24 of A·G (ATC-117, 3-1 to
 -- 3-3; Annex 10 Volume IV).
 unfoldable pub interrogation_parity : List ℕ → ℕ → ℕ
 interrogation_parity f a = bit_xor (parity (number f)) (overlay a)

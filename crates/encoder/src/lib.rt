@@ -37,7 +37,7 @@ pub fn seal_reply(m: &mut [u8], word: u32) -> Seal
     }
 }
 
-// Writes the parity field of an interrogation for the address: R + the upper half of typeof.address.G.
+// Writes the parity field of an interrogation for the address: R + the upper half of address·G.
 pub fn seal_interrogation(m: &mut [u8], address: u32) -> Seal
     ensures result_value { said result ≡ seal_outcome m.old address }
     ensures m_after { m.new ≡ interrogation_after m.old address }
