@@ -57,7 +57,7 @@ opening_sent : Sent own 0 1 (data_of 1) (interrogation_after opening own)
 unfolding own opening data_of seal_outcome is_message_length is_word first_bit_agrees first_bit is_extended reply_control segment_number segment
 opening_sent = record {
   unsealed = opening;
-  are_bytes_lem = are_bytes_lem opening refl;
+  are_bytes = are_bytes_lem opening refl;
   not-refused = refl;
   sealed = refl;
   format = refl;
@@ -70,7 +70,7 @@ other_sent : Sent own 1 0 (data_of 0) (interrogation_after other own)
 unfolding own other data_of seal_outcome is_message_length is_word first_bit_agrees first_bit is_extended reply_control segment_number segment
 other_sent = record {
   unsealed = other;
-  are_bytes_lem = are_bytes_lem other refl;
+  are_bytes = are_bytes_lem other refl;
   not-refused = refl;
   sealed = refl;
   format = refl;

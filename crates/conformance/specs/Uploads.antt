@@ -15,7 +15,7 @@ use Rattle.conformance.specs.Bursts.{Burst}
 -- for the address, not refused, left so.
 pub record Sent (address control number : ℕ) (bytes m : List ℕ) : Type 0 where
   pub unsealed : List ℕ
-  pub are_bytes_lem : Bytes unsealed
+  pub are_bytes : Bytes unsealed
   pub not-refused : seal_outcome unsealed address ≡ done
   pub sealed : m ≡ interrogation_after unsealed address
   pub format : is_extended unsealed ≡ true

@@ -2,12 +2,12 @@
 -- the ten that are written is the one before, by its index.
 use mathlib.Core.Path.{◌≡◌, refl, sym, ap, ap₂, ◌∙◌, subst}
 use mathlib.Core.Bool.{Bool, true, false}
-use mathlib.Core.List.{List, [], ◌∷◌, ◌++◌}
+use mathlib.Core.List.{List, [], ◌∷◌, ◌++◌, append-nil}
 use Prim.Native.Nat.{ℕ, ◌+◌, ◌-◌, ◌*◌, ◌<◌, ◌≤◌}
 use native.Mathlib.Omega.{arith}
 use lib.Dec.{ltb}
-use lib.ListN.{length, get_or, take, drop, length-append, length-drop, get_or-append}
-use lib.Seq.{length-take-le, take_at, drop_at, get_or-take, get_or-drop, get_or-append-add, ext_get_or}
+use lib.ListN.{length, get_or, take, drop, length-append, length-drop, drop_of_length-le, get_or-append}
+use lib.Seq.{take-length, length-take-le, take_at, drop_at, get_or-take, get_or-drop, get_or-append-add, ext_get_or}
 use borrow.Author.Tests.{ltb-true, ltb-false}
 use borrow.Rule.Slice.PartMut.{put_mid, Post-is}
 use Rattle.outcome.proofs.Laws.{positive}
@@ -16,6 +16,12 @@ use Rattle.message.proofs.Laws.{field_is}
 use Rattle.uplink_elm.specs.Segments.{segment, segment_at, stored}
 
 -- ---- the copy of a segment
+
+-- a list copied over another of one length, whose rest stays
+pub copied : (k : ℕ) (src dst ys : List ℕ) → k ≡ length src → length dst ≤ length src → ys ≡ take k src ++ drop k dst → ys ≡ src
+copied k src dst ys e h f =
+    f ∙ ap (λ (n : ℕ). take n src ++ drop n dst) e
+    ∙ ap₂ ◌++◌ (take-length src) (drop_of_length-le dst h) ∙ append-nil src
 
 pub part_length : (a n : ℕ) (l : List ℕ) → a + n ≤ length l → length (take n (drop a l)) ≡ n
 part_length a n l h = length-take-le n (drop a l) (omega (arith, length-drop a l))
