@@ -1,5 +1,5 @@
 -- The demands, each sentence as one statement; the theorems that prove them stand in proofs/ under the same names, in lower
--- case with hyphens.
+-- case.
 pub mod Refusals
 pub mod Sealing
 pub mod Bursts

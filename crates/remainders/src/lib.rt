@@ -48,8 +48,7 @@ fn divide_all(replies: &[u8], remainders: &mut [u32])
     requires { length replies.now ≡ 14 * length remainders.old }
     ensures { remainders.new ≡ remainders_of replies.now (length remainders.old) }
 {
-    // Every entry is written below. To fill an array with zeros the compiler calls C's memset, and the library for C needs nothing
-    // from outside.
+    // Every entry is written below.
     let mut tables = [1u32; TOTAL];
     write_last(&mut tables);
     fill_others(&mut tables);
