@@ -77,7 +77,7 @@ check() {
         say "the program is not built, or not from these files, and rt, the Rattle toolchain, which would prove and build it, is not on the path"
         return 1
     fi
-    say "proving and building the program; this takes a minute or two, once"
+    say "proving and building the program; this takes some minutes, once"
     local before
     before=$(sources)
     rm -f "$stamp" "$program"
