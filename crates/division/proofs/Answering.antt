@@ -1,41 +1,28 @@
--- What a caller knows of a Word that is answered: a call within the rules is answered with its value.
-use mathlib.Core.Path.{◌≡◌, refl, sym, ap, ◌∙◌}
+-- What a caller knows of a result: a call within the rules is answered with its value.
+use mathlib.Core.Path.{◌≡◌, ◌∙◌}
 use mathlib.Core.Bool.{true}
 use mathlib.Core.List.{List}
 use Prim.Native.Nat.{ℕ, ◌<◌, ◌^◌}
-use lib.ListN.{length, get_or}
-use Rattle.outcome.specs.Outcomes.{Outcome, value}
-use Rattle.outcome.specs.Outcomes.Outcome.{refusal, answer}
+use lib.ListN.{length}
+use Rattle.outcome.specs.Outcomes.{value}
 use Rattle.outcome.specs.Refusals.{wrong_length, word_too_large}
-use Rattle.outcome.proofs.Laws.{refusal_is_no_answer, same-value, unless_passed}
+use Rattle.outcome.proofs.Laws.{refusal_is_no_answer, same-value, unless_passed, said_by_injective}
 use Rattle.message.specs.Message.{number, is_message_length, is_field_length, is_word}
 use Rattle.message.proofs.Laws.{lt-word}
 use Rattle.division.specs.Division.{remainder, backward, parity, overlay, address_read}
 use Rattle.division.specs.Answers.{said, parity_answer, remainder_answer, address_answer, overlay_answer, backward_answer}
-use Rattle.division.specs.declared.Word.{Word}
-use Rattle.division.specs.declared.Word.TheVariants.{Value, Refused}
+use Rattle.outcome.specs.declared.Refusal.{Refusal}
+use Rattle.std.specs.Prelude.{Result, Ok, Err}
 
--- ---- different answers of the code are different answers of the paper
+-- ---- different results of the code are different answers of the paper
 
--- what an answer of the paper was said for
-abbrev unsaid : Outcome → Word
-unsaid (answer n vs) = Value (get_or vs 0 0)
-unsaid (refusal n) = Refused n
-
-unsaid-said : (w : Word) → unsaid (said w) ≡ w
-unsaid-said (Value w) = refl
-unsaid-said (Refused n) = refl
-
-pub said_injective : (v w : Word) → said v ≡ said w → v ≡ w
-said_injective v w e = sym (unsaid-said v) ∙ ap unsaid e ∙ unsaid-said w
+pub said_injective : (r s : Result ℕ Refusal) → said r ≡ said s → r ≡ s
+said_injective = said_by_injective (λ w. value w) (λ _ _ e. same-value e) (λ _ _. refusal_is_no_answer)
 
 -- ---- the value of an answer
 
-pub value_is : (w : Word) (v x : ℕ) → w ≡ Value v → said w ≡ value x → v ≡ x
-value_is w v x e s = same-value (sym (ap said e) ∙ s)
-
-pub not-refused : (w : Word) (n x : ℕ) → w ≡ Refused n → said w ≡ value x → ⊥
-not-refused w n x e s = refusal_is_no_answer (sym (ap said e) ∙ s)
+pub value_is : (r : Result ℕ Refusal) (x : ℕ) → said r ≡ value x → r ≡ Ok x
+value_is r x e = said_injective r (Ok x) e
 
 pub parity-value : (f : List ℕ) → is_field_length (length f) ≡ true → parity_answer f ≡ value (parity (number f))
 unfolding parity_answer

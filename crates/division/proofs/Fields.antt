@@ -20,7 +20,7 @@ use Rattle.message.specs.Message.{number, Bytes}
 use Rattle.division.specs.Ways.{register_from, register_way, table_step, table_way, rows_from, row_sum, ThreeWays}
 use Rattle.division.proofs.Xor.{xor_assoc}
 use Rattle.division.proofs.Shifting.{shift_in_byte, shift_in-lt, parity-zero, parity-lt, parity_extend, parity-row}
-use Rattle.message.proofs.Laws.{number-next, number-split, number_lt, number-append_byte, bytes_drop}
+use Rattle.message.proofs.Laws.{field-length-le, number-next, number-split, number_lt, number-append_byte, bytes_drop}
 
 -- ---- which bits of a number count
 
@@ -58,10 +58,17 @@ unfolding register_from
 register-lt zero r m h = h
 register-lt (suc k) r m h = register-lt k (shift_in 1 r (m / 2 ^ k % 2)) m (shift_in-lt 1 r (m / 2 ^ k % 2))
 
-pub register_bit : (left r s m : ℕ) → 0 < left → s ≡ shift_in 1 r (m / 2 ^ (left - 1) % 2) → register_from s (left - 1) m ≡ register_from r left m
+register_bit : (left r s m : ℕ) → 0 < left → s ≡ shift_in 1 r (m / 2 ^ (left - 1) % 2) → register_from s (left - 1) m ≡ register_from r left m
 unfolding register_from
 register_bit zero r s m h e = absurd (not-suc-le-zero h)
 register_bit (suc k) r s m h e = ap (λ (x : ℕ). register_from x (suc k - 1) m) e ∙ simp unary_clauses
+
+-- the same by the bits of a byte that are taken
+pub register_turn : (taken r s m : ℕ) → taken < 8 → s ≡ shift_in 1 r (m / 2 ^ (7 - taken) % 2) → register_from s (8 - (taken + 1)) m ≡ register_from r (8 - taken) m
+register_turn taken r s m h e =
+    let p : 7 - taken ≡ 8 - taken - 1 = omega arith in
+    let q : 8 - (taken + 1) ≡ 8 - taken - 1 = omega arith in
+    rw q (register_bit (8 - taken) r s m (omega arith) (rw p at e))
 
 pub register-end : (left r m : ℕ) → left ≤ 0 → register_from r left m ≡ r
 unfolding register_from
@@ -112,7 +119,7 @@ table_end f i r l = ap (table_way r) (drop_of_length-le f l)
 
 -- ---- the rows, a bit at a step
 
-pub rows_bit : (e left m row sum : ℕ) → 0 < left → row ≡ remainder (2 ^ (24 + e + (left - 1)))
+rows_bit : (e left m row sum : ℕ) → 0 < left → row ≡ remainder (2 ^ (24 + e + (left - 1)))
     → bit_xor (bit_xor sum (m / 2 ^ (left - 1) % 2 * row)) (rows_from e (left - 1) m) ≡ bit_xor sum (rows_from e left m)
 unfolding rows_from
 rows_bit e zero m row sum h w = absurd (not-suc-le-zero h)
@@ -120,6 +127,13 @@ rows_bit e (suc k) m row sum h w =
     simp unary_clauses
     (xor_assoc sum (m / 2 ^ k % 2 * row) (rows_from e k m)
     ∙ ap (λ (v : ℕ). bit_xor sum (bit_xor (m / 2 ^ k % 2 * v) (rows_from e k m))) (simp unary_clauses at w))
+
+pub rows_turn : (e taken m row sum : ℕ) → taken < 8 → row ≡ remainder (2 ^ (24 + e + (7 - taken)))
+    → bit_xor (bit_xor sum (m / 2 ^ (7 - taken) % 2 * row)) (rows_from e (8 - (taken + 1)) m) ≡ bit_xor sum (rows_from e (8 - taken) m)
+rows_turn e taken m row sum h w =
+    let p : 7 - taken ≡ 8 - taken - 1 = omega arith in
+    let q : 8 - (taken + 1) ≡ 8 - taken - 1 = omega arith in
+    rw (p, q) (rows_bit e (8 - taken) m row sum (omega arith) (rw p at w))
 
 pub rows_end : (e left m sum : ℕ) → left ≤ 0 → bit_xor sum (rows_from e left m) ≡ sum
 unfolding rows_from
@@ -203,3 +217,6 @@ three_ways f h = (
   where
     from_nothing : (m : ℕ) → 0 * 2 ^ (8 * length f) + m ≡ m
     from_nothing m = ap (λ (n : ℕ). n + m) (zero-mul (2 ^ (8 * length f))) ∙ zero-add m
+
+-- what the calls that go two of the three ways need
+pub ruleset ways = (three_ways, field-length-le)

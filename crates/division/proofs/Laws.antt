@@ -7,7 +7,7 @@ pub use Rattle.division.proofs.Table.{double_is, byte_table_rule}
 pub use Rattle.division.proofs.Degrees.{product_lt, quotient-lt}
 pub use Rattle.division.proofs.Shifting.{shl-suc, shl-shl, shl_comm, remainder-shl, parity-lt, parity-zero, parity-xor, parity_byte_on, backward_is, backward-lt, burst_noticed, window_unique}
 pub use Rattle.division.proofs.Reading.{message-remainder, remainder-parts, address_read-remainder, address_read-lt, address_law, overlay-lt, read-overlay, remainder_by_address, parity_is, overlay-coefficient}
-pub use Rattle.division.proofs.Answering.{value_is, not-refused, parity-value, remainder-value, address_value, overlay-value, backward-value}
+pub use Rattle.division.proofs.Answering.{value_is, parity-value, remainder-value, address_value, overlay-value, backward-value}
 -- ---- end theorems, which say what the definitions are and which no proof above cites
 pub use Rattle.division.proofs.Dividing.{division_unique, quotient-xor, product-xor}
 pub use Rattle.division.proofs.Shifting.{parity_extend, backward_unique}

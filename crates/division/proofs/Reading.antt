@@ -145,3 +145,6 @@ overlay-coefficient a j h =
 
     one : 24 - j ≡ 23 - j + 1
     one = omega arith
+
+-- what the call that reads the address from the remainder needs
+pub ruleset by_remainder = (address_read-remainder, remainder-lt)

@@ -1,17 +1,14 @@
 -- What the calls of this library answer.
-use Rattle.std.specs.Prelude.{ℕ, List, Bool, length}
-use Rattle.outcome.specs.Outcomes.{Outcome, value, unless}
-use Rattle.outcome.specs.Outcomes.Outcome.{refusal}
+use Rattle.std.specs.Prelude.{ℕ, List, Bool, length, Result}
+use Rattle.outcome.specs.Outcomes.{Outcome, value, unless, said_by}
 use Rattle.outcome.specs.Refusals.{wrong_length, word_too_large}
 use Rattle.division.specs.Division.{remainder, shift_in, backward, parity, overlay, address_read}
 use Rattle.message.specs.Message.{number, bit_of, is_message_length, is_field_length, is_word}
-use Rattle.division.specs.declared.Word.{Word}
-use Rattle.division.specs.declared.Word.TheVariants.{Value, Refused}
+use Rattle.outcome.specs.declared.Refusal.{Refusal}
 
--- What a Word says.
-abbrev pub said : Word → Outcome
-said (Value w) = value w
-said (Refused n) = refusal n
+-- What a call says: a word, or its refusal.
+abbrev pub said : Result ℕ Refusal → Outcome
+said = said_by (λ w. value w)
 
 unfoldable pub register_answer : ℕ → Bool → Outcome
 register_answer r b = unless (is_word r) word_too_large (value (shift_in 1 r (bit_of b)))

@@ -6,8 +6,8 @@ ghost use Rattle.message.specs.Message.{number};
 ghost use Rattle.division.specs.Tables.{byte_table, IsByteTable};
 ghost use Rattle.division.specs.Answers.{said, parity_answer};
 
-use crate::{Word, wide};
 use message::is_field_length;
+use outcome::{Refusal, refuse_unless};
 
 const TABLE: [u32; 256] = [
     0x000000, 0xFFF409, 0x001C1B, 0xFFE812, 0x003836, 0xFFCC3F, 0x00242D, 0xFFD024, 0x00706C,
@@ -56,8 +56,8 @@ fn shift_byte_by_table(table: &[u32; 256], r: u32, byte: u8) -> u32
 {
     let leaving = r / 65536;
     let staying = r % 65536 * 256;
-    let entry = leaving ^ wide(byte);
-    let at = entry as usize;
+    // Below 256: Rust has no From for a u32 as an index.
+    let at = (leaving ^ u32::from(byte)) as usize;
     staying ^ table[at]
 }
 
@@ -67,10 +67,8 @@ fn by_byte_table(table: &[u32; 256], field: &[u8]) -> u32
     ensures { result ≡ table_way 0 field.now }
 {
     let mut state: u32 = 0;
-    let mut i: usize = 0;
-    while i < field.len() {
-        state = shift_byte_by_table(table, state, field[i]);
-        i += 1;
+    for &byte in field {
+        state = shift_byte_by_table(table, state, byte);
     }
     state
 }
@@ -84,12 +82,10 @@ pub(crate) fn field_parity(field: &[u8]) -> u32
 }
 
 // R of a field, byte by byte.
-pub fn parity_by_bytes(field: &[u8]) -> Word
+#[tactic(auto, using(outcome::proofs::Laws::rows), unfolding(crate::specs::Answers::parity_answer))]
+pub fn parity_by_bytes(field: &[u8]) -> Result<u32, Refusal>
     ensures { said result ≡ parity_answer field.now }
 {
-    if is_field_length(field.len()) {
-        Word::Value(field_parity(field))
-    } else {
-        Word::Refused(1)
-    }
+    refuse_unless(is_field_length(field.len()), Refusal::WrongLength)?;
+    Ok(field_parity(field))
 }

@@ -3,16 +3,17 @@
 // (x + 1)·G has eight terms only, so x^25 has the remainder of seven low powers of x, and x^50 that of their squares. What
 // stands above x^25 or x^50 is multiplied by these, by a few shifts, and added to what stands below: the remainder stays, and
 // the degree falls, from 111 to 59, 49, 36 and 24.
-ghost use Rattle.std.specs.Prelude.{◌<◌, ◌+◌, ◌*◌, ◌^◌, ◌≡◌, true, length};
+ghost use Rattle.std.specs.Prelude.{◌<◌, ◌+◌, ◌*◌, ◌^◌, ◌≡◌, true, length, Ok};
 ghost use Rattle.message.specs.Message.{number, is_field_length};
 ghost use Rattle.division.specs.Division.{remainder, parity};
 ghost use Rattle.division.specs.Polynomial.{product};
 ghost use Rattle.division.specs.Folds.{folded, x25, x50};
 ghost use Rattle.division.specs.Answers.{said, parity_answer};
 
-use crate::words::{eight_bytes, four_bytes, three_bytes};
-use crate::{GENERATOR, Word};
+use crate::GENERATOR;
+use crate::words::number_of;
 use message::is_field_length;
+use outcome::{Refusal, refuse_unless};
 
 // Times the seven powers that x^25 stands for.
 fn by_x25(a: u64) -> u64
@@ -25,7 +26,8 @@ fn by_x25(a: u64) -> u64
     lower ^ (three * 1024)
 }
 
-// Times the seven powers that x^50 stands for.
+// Times the seven powers that x^50 stands for. It stays apart from by_x25, as fold_50 from fold_25: each is a list of powers, which one
+// function for both would have to compute.
 fn by_x50(a: u64) -> u64
     requires { a < 2 ^ 40 }
     ensures { result ≡ product a x50 }
@@ -55,6 +57,7 @@ fn reduced(v: u64) -> u32
     requires { v < 2 ^ 25 }
     ensures { result ≡ remainder v }
 {
+    // Below 2^25: Rust has no From to a narrower type.
     let dividend = v as u32;
     let taken = dividend / 0x1000000 * GENERATOR;
     dividend ^ taken
@@ -90,17 +93,15 @@ fn short_parity(field: &[u8]) -> u32
     requires { length field.now ≡ 4 }
     ensures { result ≡ parity (number field.now) }
 {
-    let bits = four_bytes(field) as u64;
-    remainder_of_word(bits * 0x1000000)
+    remainder_of_word(number_of(field) * 0x1000000)
 }
 
 fn long_parity(field: &[u8]) -> u32
     requires { length field.now ≡ 11 }
     ensures { result ≡ parity (number field.now) }
 {
-    let upper = eight_bytes(&field[..8]);
-    let last = three_bytes(&field[8..]) as u64;
-    remainder_of_words(upper, last * 0x1000000)
+    let (upper, last) = field.split_at(8);
+    remainder_of_words(number_of(upper), number_of(last) * 0x1000000)
 }
 
 fn folded_parity(field: &[u8]) -> u32
@@ -114,13 +115,12 @@ fn folded_parity(field: &[u8]) -> u32
     }
 }
 
-// R of a field, by folding: the fastest way for one field.
-pub fn parity_by_folding(field: &[u8]) -> Word
-    ensures { said result ≡ parity_answer field.now }
+// R of a field, by folding: the fastest way for one field. The second promise follows from the first: with it a caller unwraps.
+#[tactic(auto, using(outcome::proofs::Laws::rows), unfolding(crate::specs::Answers::parity_answer))]
+pub fn parity_by_folding(field: &[u8]) -> Result<u32, Refusal>
+    ensures value { said result ≡ parity_answer field.now }
+    ensures ok { is_field_length (length field.now) ≡ true → result ≡ Ok (parity (number field.now)) }
 {
-    if is_field_length(field.len()) {
-        Word::Value(folded_parity(field))
-    } else {
-        Word::Refused(1)
-    }
+    refuse_unless(is_field_length(field.len()), Refusal::WrongLength)?;
+    Ok(folded_parity(field))
 }

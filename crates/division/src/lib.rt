@@ -1,12 +1,11 @@
 // Division by the Mode S generator: the register, R of a field in document 01's three ways and by folding, the remainder of a
 // message, the address read from it, the address overlay, the register run backwards, and the byte table itself.
 //
-// Every public function takes any input and answers a Word, the value or the number of the refusal (the byte table, which nothing
-// can refuse, is a value alone). Its contract says which, by a definition of specs/Answers.antt. Private workers take a table as a
-// lent array, so that a call copies it at most once.
+// Every public function takes any input and answers a word of 24 bits or the refusal (the byte table, which nothing can refuse,
+// is a value alone). Its contract says which, by a definition of specs/Answers.antt. Private workers take a table as a lent
+// array, so that a call copies it at most once, and a register as a u32 below 2^24: a type for it would be made and opened at each
+// shift of the loops.
 #![tactic(auto)]
-
-ghost use Rattle.std.specs.Prelude.{◌<◌, ◌≡◌};
 
 mod byte_table;
 mod folding;
@@ -23,19 +22,5 @@ pub use register::{parity_by_register, register_back, register_step};
 pub use remainder::{address_read, message_remainder};
 pub use rows::parity_by_rows;
 
-// A 24-bit word, or the number of the refusal.
-#[derive(Clone, Copy)]
-pub enum Word {
-    Value(u32),
-    Refused(u32),
-}
-
 // The generator, x^24 on top.
 const GENERATOR: u32 = 0x1FFF409;
-
-pub(crate) fn wide(b: u8) -> u32
-    ensures value { result ≡ b }
-    ensures upper_bound { result < 256 }
-{
-    b as u32
-}

@@ -1,20 +1,19 @@
 // The address overlay of an interrogation.
-ghost use Rattle.std.specs.Prelude.{◌<◌, ◌^◌, ◌≡◌};
+ghost use Rattle.std.specs.Prelude.{◌<◌, ◌^◌, ◌≡◌, Ok};
 ghost use Rattle.division.specs.Division.{overlay};
 ghost use Rattle.division.specs.Answers.{said, overlay_answer};
 
-use crate::Word;
 use message::is_word;
+use outcome::{Refusal, refuse_unless};
 
-// The coefficients x^47 to x^24 of A·G.
-pub fn uplink_overlay(a: u32) -> Word
-    ensures { said result ≡ overlay_answer a }
+// The coefficients x^47 to x^24 of A·G. The second promise follows from the first: with it a caller unwraps.
+#[tactic(auto, using(outcome::proofs::Laws::rows, message::proofs::Laws::words), unfolding(crate::specs::Answers::overlay_answer))]
+pub fn uplink_overlay(a: u32) -> Result<u32, Refusal>
+    ensures value { said result ≡ overlay_answer a }
+    ensures ok { a < 2 ^ 24 → result ≡ Ok (overlay a) }
 {
-    if is_word(a) {
-        Word::Value(overlay_of(a))
-    } else {
-        Word::Refused(3)
-    }
+    refuse_unless(is_word(a), Refusal::WordTooLarge)?;
+    Ok(overlay_of(a))
 }
 
 // The upper half of the sum of A's shifts by the powers of G. Those by 24 down to 12, each one less, are summed by doubling how

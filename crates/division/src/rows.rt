@@ -6,8 +6,8 @@ ghost use Rattle.message.specs.Message.{number};
 ghost use Rattle.division.specs.Tables.{IsRowTable};
 ghost use Rattle.division.specs.Answers.{said, parity_answer};
 
-use crate::{Word, wide};
 use message::is_field_length;
+use outcome::{Refusal, refuse_unless};
 
 // The row for bit 73 is the one of ATC-40's errata sheet.
 const ROWS: [u32; 88] = [
@@ -29,16 +29,11 @@ fn rows_of_byte(rows: &[u32; 88], at: usize, byte: u8) -> u32
     requires at_bound { at ≤ 80 }
     ensures { result ≡ rows_from (80 - at) 8 byte }
 {
-    let bits = wide(byte);
+    let bits = u32::from(byte);
     let mut sum: u32 = 0;
-    let mut left: usize = 8;
-    let mut row = at;
-    while 0 < left {
-        left -= 1;
-        let bit = (bits >> left) % 2;
-        let added = bit * rows[row];
-        sum = sum ^ added;
-        row += 1;
+    for taken in 0..8 {
+        let bit = (bits >> (7 - taken)) % 2;
+        sum ^= bit * rows[at + taken];
     }
     sum
 }
@@ -51,12 +46,9 @@ fn by_rows(rows: &[u32; 88], field: &[u8]) -> u32
 {
     let first = 88 - 8 * field.len();
     let mut sum: u32 = 0;
-    let mut i: usize = 0;
-    while i < field.len() {
+    for (i, &byte) in field.iter().enumerate() {
         let at = first + 8 * i;
-        let added = rows_of_byte(rows, at, field[i]);
-        sum = sum ^ added;
-        i += 1;
+        sum ^= rows_of_byte(rows, at, byte);
     }
     sum
 }
@@ -71,12 +63,10 @@ fn field_parity_by_rows(field: &[u8]) -> u32
 }
 
 // R of a field, by rows added for its ones.
-pub fn parity_by_rows(field: &[u8]) -> Word
+#[tactic(auto, using(outcome::proofs::Laws::rows), unfolding(crate::specs::Answers::parity_answer))]
+pub fn parity_by_rows(field: &[u8]) -> Result<u32, Refusal>
     ensures { said result ≡ parity_answer field.now }
 {
-    if is_field_length(field.len()) {
-        Word::Value(field_parity_by_rows(field))
-    } else {
-        Word::Refused(1)
-    }
+    refuse_unless(is_field_length(field.len()), Refusal::WrongLength)?;
+    Ok(field_parity_by_rows(field))
 }

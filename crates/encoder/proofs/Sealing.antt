@@ -1,6 +1,6 @@
 -- How a seal's definitions split: the outcome by its three tests, and the parity field's bytes.
 use mathlib.Core.Path.{◌≡◌, refl, sym, ap, ap₂, ◌∙◌}
-use mathlib.Core.Bool.{true, false}
+use mathlib.Core.Bool.{true}
 use mathlib.Core.List.{List, [], ◌∷◌, ◌++◌, append-nil}
 use Prim.Native.Nat.{ℕ, ◌-◌, ◌^◌, ◌<◌, ◌≤◌}
 use native.Mathlib.Omega.{arith}
@@ -8,29 +8,17 @@ use lib.ListN.{length, set, take}
 use lib.Seq.{drop-length}
 use borrow.Rule.Slice.PartMut.{put_mid, Post-is}
 use Rattle.message.specs.Message.{is_message_length, first_bit_agrees, is_word}
-use Rattle.outcome.specs.Outcomes.{Outcome, done}
-use Rattle.outcome.specs.Outcomes.Outcome.{refusal, answer}
+use Rattle.outcome.specs.Outcomes.{done}
+use Rattle.outcome.specs.Outcomes.Outcome.{answer}
 use Rattle.outcome.specs.Refusals.{wrong_length, word_too_large, first_bit_contradicts}
-use Rattle.outcome.proofs.Laws.{refused, passed, unless-answer}
+use Rattle.outcome.proofs.Laws.{passed, unless-answer, admission_injective}
 use Rattle.message.proofs.Laws.{word_lt, field_is}
+use Rattle.division.proofs.Laws.{overlay-lt}
 use Rattle.encoder.specs.Seals.{word_bytes, with_parity, seal_outcome, said}
-use Rattle.encoder.specs.declared.Seal.{Seal}
-use Rattle.encoder.specs.declared.Seal.TheVariants.{Sealed, Refused}
+use Rattle.std.specs.Prelude.{Result}
+use Rattle.outcome.specs.declared.Refusal.{Refusal}
 
 -- ---- the outcome
-
-pub refused-length : (m : List ℕ) (w : ℕ) → is_message_length (length m) ≡ false → refusal wrong_length ≡ seal_outcome m w
-unfolding seal_outcome
-refused-length m w e = refused (is_message_length (length m)) wrong_length _ e
-
-pub refused-word : (m : List ℕ) (w : ℕ) → is_message_length (length m) ≡ true → is_word w ≡ false → refusal word_too_large ≡ seal_outcome m w
-unfolding seal_outcome
-refused-word m w e f = passed (is_message_length (length m)) wrong_length (refusal word_too_large) _ e (refused (is_word w) word_too_large _ f)
-
-pub refused_bit : (m : List ℕ) (w : ℕ) → is_message_length (length m) ≡ true → is_word w ≡ true → first_bit_agrees m ≡ false → refusal first_bit_contradicts ≡ seal_outcome m w
-unfolding seal_outcome
-refused_bit m w e f g =
-    passed (is_message_length (length m)) wrong_length (refusal first_bit_contradicts) _ e (passed (is_word w) word_too_large (refusal first_bit_contradicts) _ f (refused (first_bit_agrees m) first_bit_contradicts _ g))
 
 pub accepted : (m : List ℕ) (w : ℕ) → is_message_length (length m) ≡ true → is_word w ≡ true → first_bit_agrees m ≡ true → done ≡ seal_outcome m w
 unfolding seal_outcome
@@ -47,6 +35,14 @@ was_accepted m w e =
     let second = unless-answer (is_word w) word_too_large _ 0 [] first.1 in
     let third = unless-answer (first_bit_agrees m) first_bit_contradicts _ 0 [] second.1 in
     (first.0, word_lt w second.0, third.0)
+
+pub accepted-length : (m : List ℕ) (w : ℕ) → done ≡ seal_outcome m w → is_message_length (length m) ≡ true
+accepted-length m w e = (was_accepted m w (sym e)).0
+
+pub accepted-word : (m : List ℕ) (w : ℕ) → done ≡ seal_outcome m w → w < 2 ^ 24
+accepted-word m w e = (was_accepted m w (sym e)).1
+
+pub ruleset accepting = (accepted-length, accepted-word, overlay-lt)
 
 -- a seal that was answered was done
 pub answered-done : (m : List ℕ) (w n : ℕ) (vs : List ℕ) → seal_outcome m w ≡ answer n vs → seal_outcome m w ≡ done
@@ -73,16 +69,7 @@ written m ys p h e =
     ap (λ (t : List ℕ). take (length m - 3) m ++ (ys ++ t)) (Post-is (length m - 3) (length m) m (omega arith) ∙ drop-length m)
     ∙ ap₂ (λ (f t : List ℕ). f ++ t) (sym (field_is m)) (append-nil ys ∙ e)
 
--- ---- different answers of the code are different answers of the paper
+-- ---- different results of the code are different answers of the paper
 
--- what an answer of the paper was said for
-abbrev unsaid : Outcome → Seal
-unsaid (answer n vs) = Sealed
-unsaid (refusal n) = Refused n
-
-unsaid-said : (s : Seal) → unsaid (said s) ≡ s
-unsaid-said Sealed = refl
-unsaid-said (Refused n) = refl
-
-pub said_injective : (s t : Seal) → said s ≡ said t → s ≡ t
-said_injective s t e = sym (unsaid-said s) ∙ ap unsaid e ∙ unsaid-said t
+pub said_injective : (r s : Result Unit Refusal) → said r ≡ said s → r ≡ s
+said_injective = admission_injective

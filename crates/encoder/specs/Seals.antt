@@ -1,13 +1,11 @@
 -- The two encoders of the parity field, which document 01 calls seals.
-use Rattle.std.specs.Prelude.{ℕ, ◌/◌, ◌%◌, ◌^◌, List, [], ◌∷◌, ◌++◌, length}
+use Rattle.std.specs.Prelude.{ℕ, ◌/◌, ◌%◌, ◌^◌, List, [], ◌∷◌, ◌++◌, length, Result}
 use Rattle.std.specs.Int.Bits.{bit_xor}
 use Rattle.division.specs.Division.{parity, overlay}
 use Rattle.message.specs.Message.{number, field, is_message_length, first_bit_agrees, is_word}
-use Rattle.outcome.specs.Outcomes.{Outcome, done, unless, left}
+use Rattle.outcome.specs.Outcomes.{Outcome, done, unless, admission, left}
 use Rattle.outcome.specs.Refusals.{wrong_length, word_too_large, first_bit_contradicts}
-use Rattle.outcome.specs.Outcomes.Outcome.{refusal}
-use Rattle.encoder.specs.declared.Seal.{Seal}
-use Rattle.encoder.specs.declared.Seal.TheVariants.{Sealed, Refused}
+use Rattle.outcome.specs.declared.Refusal.{Refusal}
 
 -- The three bytes of a 24-bit word, its x^23 in the first bit.
 unfoldable pub word_bytes : ℕ → List ℕ
@@ -41,9 +39,9 @@ seal_outcome m w =
     (unless (first_bit_agrees m) first_bit_contradicts
     done))
 
-abbrev pub said : Seal → Outcome
-said Sealed = done
-said (Refused n) = refusal n
+-- Sealed, or the refusal.
+abbrev pub said : Result Unit Refusal → Outcome
+said = admission
 
 unfoldable pub reply_after : List ℕ → ℕ → List ℕ
 reply_after m w = left (seal_outcome m w) m (reply_seal m w)

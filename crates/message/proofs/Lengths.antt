@@ -17,6 +17,9 @@ pub lt-word : (w : ℕ) → w < 2 ^ 24 → is_word w ≡ true
 unfolding is_word
 lt-word w h = le-leb w 0xFFFFFF (omega arith)
 
+-- what a call with a word needs
+pub ruleset words = (word_lt, lt-word)
+
 pub message-length : (n : ℕ) → is_message_length n ≡ true → (n ≡ 7) ⊎ (n ≡ 14)
 unfolding is_message_length
 message-length n e = cases (or_cases (eqb n 7) (eqb n 14) e)

@@ -13,7 +13,8 @@ pub fn is_message_length(n: usize) -> bool
     (n == 7) | (n == 14)
 }
 
-// A field, a message without its parity field, has 4 or 11.
+// A field, a message without its parity field, has 4 or 11. The two tests stay apart: with their numbers as parameters each caller
+// would have to know them.
 pub fn is_field_length(n: usize) -> bool
     ensures { result ≡ is_field_length n }
 {
@@ -49,5 +50,5 @@ pub fn format_number(m: &[u8]) -> u32
 fn first_byte(m: &[u8]) -> u32
     ensures { result ≡ get_or m.now 0 0 }
 {
-    if 0 < m.len() { m[0] as u32 } else { 0 }
+    m.first().copied().map_or(0, u32::from)
 }

@@ -4,10 +4,12 @@ use mathlib.Core.Bool.{Bool, true, false}
 use mathlib.Core.List.{List}
 use Prim.Native.Nat.{ℕ}
 use native.Mathlib.Omega.{arith}
-use Rattle.outcome.specs.Outcomes.{Outcome, value, done, unless, admission, left, Unrefused}
+use Rattle.std.specs.Prelude.{Result, Ok, Err, IsErrAnd}
+use Rattle.outcome.specs.declared.Refusal.{Refusal}
+use Rattle.outcome.proofs.Rows.{same_row}
+use Rattle.outcome.specs.Refusals.{number_of}
+use Rattle.outcome.specs.Outcomes.{Outcome, value, done, unless, said_by, admission, left, Unrefused}
 use Rattle.outcome.specs.Outcomes.Outcome.{refusal, answer}
-use Rattle.outcome.specs.declared.Admission.{Admission}
-use Rattle.outcome.specs.declared.Admission.TheVariants.{Passed, Refused}
 
 -- ---- different answers differ
 
@@ -51,15 +53,58 @@ pub unless_refuses : (t : Bool) (n r : ℕ) (a b : Outcome) → (refusal r ≡ a
 unless_refuses true n r a b f e = f e
 unless_refuses false n r a b f e = e
 
--- ---- what a check says
+-- ---- what a row of a check says of the call that it was made for
 
-pub passed_said : (s : Admission) (o : Outcome) → s ≡ Passed → admission s ≡ o → done ≡ o
-passed_said s o e f = ap admission (sym e) ∙ f
+pub passed_row : (t u : Bool) (n : ℕ) → done ≡ unless t n done → t ≡ u → u ≡ true
+passed_row true u n e f = sym f
+passed_row false u n e f = absurd (refusal_is_no_answer (sym e))
 
-pub refused-said : (s : Admission) (n : ℕ) (o : Outcome) → s ≡ Refused n → admission s ≡ o → refusal n ≡ o
-refused-said s n o e f = ap admission (sym e) ∙ f
+pub refused_row : (t u : Bool) (n r : ℕ) (a : Outcome) → refusal r ≡ unless t n done → t ≡ u → refusal r ≡ unless u n a
+refused_row true u n r a e f = absurd (refusal_is_no_answer e)
+refused_row false u n r a e f = e ∙ ap (λ (t : Bool). unless t n a) f
+
+-- the same at the exit of the row's `?`
+pub refused_at : {A : Type 0} (answered : A → Outcome) (r : Result A Refusal) (e : Refusal) (o : Outcome)
+    → IsErrAnd r (λ d. d ≡ e) → refusal (number_of e) ≡ o → said_by answered r ≡ o
+refused_at answered (Ok a) e o h f = absurd h
+refused_at answered (Err d) e o h f = ap (λ (r : Refusal). refusal (number_of r)) h ∙ f
+
+-- what a call by rows needs: name it on the function, as `#[tactic(auto, using(outcome::proofs::Laws::rows))]`
+pub ruleset rows = (refused_row, refused_at, passed_row, unless_passed)
+
+-- ---- different results of the code are different answers of the paper
+
+same_refusal : {m n : ℕ} → refusal m ≡ refusal n → m ≡ n
+same_refusal e = cc
+
+-- the row that a call was refused by
+pub refused_by : (t : Bool) (e r : Refusal) → refusal (number_of e) ≡ unless t (number_of r) done → (t ≡ false) × (e ≡ r)
+refused_by true e r h = absurd (refusal_is_no_answer h)
+refused_by false e r h = (refl, same_row e r (same_refusal h))
+
+pub said_by_injective : {A : Type 0} (answered : A → Outcome) → ((a b : A) → answered a ≡ answered b → a ≡ b)
+    → ((a : A) (n : ℕ) → refusal n ≡ answered a → ⊥)
+    → (r s : Result A Refusal) → said_by answered r ≡ said_by answered s → r ≡ s
+said_by_injective {A = A} answered same other (Ok a) (Ok b) e = ap (λ (x : A). Ok x) (same a b e)
+said_by_injective answered same other (Ok a) (Err r) e = absurd (other a (number_of r) (sym e))
+said_by_injective answered same other (Err r) (Ok b) e = absurd (other b (number_of r) e)
+said_by_injective answered same other (Err r) (Err s) e =
+    ap (λ (x : Refusal). Err x) (same_row r s (same_refusal e))
+
+-- of a call that is only done
+pub admission_injective : (r s : Result Unit Refusal) → admission r ≡ admission s → r ≡ s
+admission_injective r s e = said_by_injective (λ _. done) (λ _ _ _. refl) (λ _ _. refusal_is_no_answer) r s e
 
 -- ---- what a call leaves in a buffer
 
 pub left_of : (o p : Outcome) (before after : List ℕ) → o ≡ p → left o before after ≡ left p before after
 left_of o p before after e = ap (λ (q : Outcome). left q before after) e
+
+pub left_refused : (o : Outcome) (n : ℕ) (before after : List ℕ) → refusal n ≡ o → before ≡ left o before after
+left_refused o n before after e = ap (λ (q : Outcome). left q before after) e
+
+pub left_done : (o : Outcome) (before after : List ℕ) → done ≡ o → after ≡ left o before after
+left_done o before after e = ap (λ (q : Outcome). left q before after) e
+
+-- what a call needs that checks first, and then writes
+pub ruleset writing = (rows, left_refused, left_done)

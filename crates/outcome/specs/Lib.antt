@@ -1,3 +1,3 @@
 -- What a reader must believe of answers and refusals.
-pub mod Outcomes
 pub mod Refusals
+pub mod Outcomes

@@ -1,7 +1,7 @@
 -- What a call answers, in the terms of document 01, and what it leaves in a lent buffer.
-use Rattle.std.specs.Prelude.{ℕ, ◌≡◌, List, [], ◌∷◌, Bool, true, false}
-use Rattle.outcome.specs.declared.Admission.{Admission}
-use Rattle.outcome.specs.declared.Admission.TheVariants.{Passed, Refused}
+use Rattle.std.specs.Prelude.{ℕ, ◌≡◌, List, [], ◌∷◌, Bool, true, false, Result, Ok, Err}
+use Rattle.outcome.specs.Refusals.{number_of}
+use Rattle.outcome.specs.declared.Refusal.{Refusal}
 
 -- An answer of any public call: the number of the refusal, or the paper's number of the answer (0 where an answer has
 -- none) with its values in the paper's order.
@@ -21,10 +21,14 @@ abbrev pub unless : Bool → ℕ → Outcome → Outcome
 unless true n a = a
 unless false n a = refusal n
 
--- What a check of a call says.
-abbrev pub admission : Admission → Outcome
-admission Passed = done
-admission (Refused n) = refusal n
+-- What a call's result says, where `answered` says it of the value: a refusal by its number in the table.
+abbrev pub said_by : {A : Type 0} → (A → Outcome) → Result A Refusal → Outcome
+said_by answered (Ok a) = answered a
+said_by answered (Err r) = refusal (number_of r)
+
+-- What a check of a call says, and every call that only says that it is done.
+abbrev pub admission : Result Unit Refusal → Outcome
+admission = said_by (λ _. done)
 
 -- What a call leaves in a buffer: where it was refused, what stood there before.
 abbrev pub left : Outcome → List ℕ → List ℕ → List ℕ

@@ -12,14 +12,16 @@ use lib.ListN.{length, get_or}
 use borrow.Author.Tests.{eq-eqb, ne_eqb, eqb-true, eqb-false, not-true}
 use Rattle.outcome.specs.Outcomes.{Outcome, unless, Unrefused}
 use Rattle.outcome.specs.Outcomes.Outcome.{refusal, answer}
+use Rattle.std.specs.Prelude.{Result}
+use Rattle.outcome.specs.declared.Refusal.{Refusal}
 use Rattle.outcome.specs.Refusals.{wrong_length, word_too_large, first_bit_contradicts, own_address_reserved}
-use Rattle.outcome.proofs.Laws.{never, or_cases, or_second, refused, passed, unless_unrefused}
+use Rattle.outcome.proofs.Laws.{never, or_cases, or_second, passed, unless_unrefused, refusal_is_no_answer, said_by_injective}
 use Rattle.division.specs.Division.{address_read}
 use Rattle.message.specs.Message.{number, format_number, is_message_length, first_bit_agrees, is_word}
 use Rattle.message.proofs.Laws.{word_lt, lt-word}
-use Rattle.transponder.specs.Receptions.{everyone, all_call_format, is_broadcast_format, reception_of, is_reserved, Permitted, reception_outcome, said}
+use Rattle.transponder.specs.Receptions.{everyone, all_call_format, is_broadcast_format, reception_of, is_reserved, Permitted, reception_outcome, answered, said}
 use Rattle.transponder.specs.declared.Reception.{Reception}
-use Rattle.transponder.specs.declared.Reception.TheVariants.{Own, AllCall, Broadcast, NotOurs, Refused}
+use Rattle.transponder.specs.declared.Reception.TheVariants.{Own, AllCall, Broadcast, NotOurs}
 
 -- ---- the formats of a broadcast
 
@@ -81,7 +83,6 @@ Case own a f AllCall = (a ≡ own → ⊥) × (a ≡ everyone) × (f ≡ all_cal
 Case own a f Broadcast = (a ≡ own → ⊥) × (a ≡ everyone) × ((f ≡ 20) ⊎ (f ≡ 21))
 Case own a f (NotOurs b) =
     (b ≡ a) × (a ≡ own → ⊥) × (a ≡ everyone → (f ≡ all_call_format → ⊥) × (f ≡ 20 → ⊥) × (f ≡ 21 → ⊥))
-Case own a f (Refused n) = ⊥
 
 -- of the answer given
 pub case : (own a f : ℕ) → Case own a f (reception_of own a f)
@@ -114,55 +115,36 @@ case_only own a f (NotOurs b) h = ap NotOurs h.0 ∙ by (eqb a everyone) refl
         let all : a ≡ everyone = eqb-true a everyone q in
         is_other_format own a f h.1 all (h.2 all).0 false (no_broadcast_format f (h.2 all).1 (h.2 all).2)
     by false q = is_other_address own a f h.1 (eqb-false a everyone q)
-case_only own a f (Refused n) h = absurd h
 
 -- ---- the outcome
 
 module _ (own : ℕ) (m : List ℕ) where
-  pub refused-length : is_message_length (length m) ≡ false → refusal wrong_length ≡ reception_outcome own m
-  unfolding reception_outcome
-  refused-length e = refused (is_message_length (length m)) wrong_length _ e
-
-  pub refused-word : is_message_length (length m) ≡ true → is_word own ≡ false → refusal word_too_large ≡ reception_outcome own m
-  unfolding reception_outcome
-  refused-word e f = passed (is_message_length (length m)) wrong_length (refusal word_too_large) _ e (refused (is_word own) word_too_large _ f)
-
-  pub refused_bit : is_message_length (length m) ≡ true → is_word own ≡ true → first_bit_agrees m ≡ false → refusal first_bit_contradicts ≡ reception_outcome own m
-  unfolding reception_outcome
-  refused_bit e f g =
-      passed (is_message_length (length m)) wrong_length (refusal first_bit_contradicts) _ e
-      (passed (is_word own) word_too_large (refusal first_bit_contradicts) _ f (refused (first_bit_agrees m) first_bit_contradicts _ g))
-
   -- past rows 1, 3 and 5
   whole : (o : Outcome) → is_message_length (length m) ≡ true → is_word own ≡ true → first_bit_agrees m ≡ true
-      → o ≡ unless (not (is_reserved own)) own_address_reserved (said (reception_of own (address_read (number m)) (format_number m))) → o ≡ reception_outcome own m
+      → o ≡ unless (not (is_reserved own)) own_address_reserved (answered (reception_of own (address_read (number m)) (format_number m))) → o ≡ reception_outcome own m
   unfolding reception_outcome
   whole o e f g h =
       passed (is_message_length (length m)) wrong_length o _ e
       (passed (is_word own) word_too_large o _ f (passed (first_bit_agrees m) first_bit_contradicts o _ g h))
 
-  pub refused-reserved : is_message_length (length m) ≡ true → is_word own ≡ true → first_bit_agrees m ≡ true → is_reserved own ≡ true
-      → refusal own_address_reserved ≡ reception_outcome own m
-  refused-reserved e f g h = whole _ e f g (refused (not (is_reserved own)) own_address_reserved _ (ap not h))
-
   pub read : (o : Outcome) → is_message_length (length m) ≡ true → is_word own ≡ true → first_bit_agrees m ≡ true → is_reserved own ≡ false
-      → o ≡ said (reception_of own (address_read (number m)) (format_number m)) → o ≡ reception_outcome own m
+      → o ≡ answered (reception_of own (address_read (number m)) (format_number m)) → o ≡ reception_outcome own m
   read o e f g h p = whole o e f g (passed (not (is_reserved own)) own_address_reserved o _ (ap not h) p)
 
 -- ---- a call that no row refuses
 
 pub own_of_read : (own : ℕ) (m : List ℕ) → Permitted own → is_message_length (length m) ≡ true → first_bit_agrees m ≡ true
-    → address_read (number m) ≡ own → reception_outcome own m ≡ said Own
+    → address_read (number m) ≡ own → reception_outcome own m ≡ answered Own
 unfolding Permitted is_reserved
 own_of_read own m h long first e =
-    sym (read own m (said Own) long (lt-word own (omega (arith, h.0))) first (ap₂ ◌||◌ (ne_eqb own 0 h.1) (ne_eqb own everyone h.2))
-    (ap said (is_own_lem own (address_read (number m)) (format_number m) e)))
+    sym (read own m (answered Own) long (lt-word own (omega (arith, h.0))) first (ap₂ ◌||◌ (ne_eqb own 0 h.1) (ne_eqb own everyone h.2))
+    (ap answered (is_own_lem own (address_read (number m)) (format_number m) e)))
 
 pub record Admitted (own : ℕ) (m : List ℕ) : Type 0 where
   pub own_lt : own < 2 ^ 24
   pub not-everyone : own ≡ everyone → ⊥
   pub first_bit_agreeing : first_bit_agrees m ≡ true
-  pub outcome : reception_outcome own m ≡ said (reception_of own (address_read (number m)) (format_number m))
+  pub outcome : reception_outcome own m ≡ answered (reception_of own (address_read (number m)) (format_number m))
 
 pub admitted : (own : ℕ) (m : List ℕ) → Unrefused (reception_outcome own m) → Admitted own m
 unfolding reception_outcome is_reserved
@@ -181,16 +163,25 @@ admitted own m h =
 -- ---- different answers of the code are different answers of the paper
 
 -- what an answer of the paper was said for
-abbrev unsaid : Outcome → Reception
-unsaid (refusal n) = Refused n
-unsaid (answer n vs) = cond (eqb n 1) Own (cond (eqb n 2) AllCall (cond (eqb n 4) Broadcast (NotOurs (get_or vs 0 0))))
+abbrev unanswered : Outcome → Reception
+unanswered (refusal n) = Own
+unanswered (answer n vs) = cond (eqb n 1) Own (cond (eqb n 2) AllCall (cond (eqb n 4) Broadcast (NotOurs (get_or vs 0 0))))
 
-unsaid-said : (s : Reception) → unsaid (said s) ≡ s
-unsaid-said Own = refl
-unsaid-said AllCall = refl
-unsaid-said Broadcast = refl
-unsaid-said (NotOurs a) = refl
-unsaid-said (Refused n) = refl
+unanswered-answered : (s : Reception) → unanswered (answered s) ≡ s
+unanswered-answered Own = refl
+unanswered-answered AllCall = refl
+unanswered-answered Broadcast = refl
+unanswered-answered (NotOurs a) = refl
 
-pub said_injective : (s t : Reception) → said s ≡ said t → s ≡ t
-said_injective s t e = sym (unsaid-said s) ∙ ap unsaid e ∙ unsaid-said t
+no_refusal : (s : Reception) (n : ℕ) → refusal n ≡ answered s → ⊥
+no_refusal Own n = refusal_is_no_answer
+no_refusal AllCall n = refusal_is_no_answer
+no_refusal Broadcast n = refusal_is_no_answer
+no_refusal (NotOurs a) n = refusal_is_no_answer
+
+pub answered_injective : (s t : Reception) → answered s ≡ answered t → s ≡ t
+answered_injective s t e = sym (unanswered-answered s) ∙ ap unanswered e ∙ unanswered-answered t
+
+pub said_injective : (s t : Result Reception Refusal) → said s ≡ said t → s ≡ t
+said_injective =
+    said_by_injective answered answered_injective no_refusal

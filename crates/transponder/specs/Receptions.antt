@@ -1,13 +1,14 @@
 -- What a transponder makes of an interrogation (document 01, 'Transponder'; ATC-117, 3.1), with the broadcasts of document
 -- 02, Point 2.
-use Rattle.std.specs.Prelude.{ℕ, ◌≤◌, ◌≡◌, List, [], ◌∷◌, Bool, cond, not, ◌&&◌, ◌||◌, eqb, length}
-use Rattle.outcome.specs.Outcomes.{Outcome, unless}
-use Rattle.outcome.specs.Outcomes.Outcome.{refusal, answer}
+use Rattle.std.specs.Prelude.{ℕ, ◌≤◌, ◌≡◌, List, [], ◌∷◌, Bool, cond, not, ◌&&◌, ◌||◌, eqb, length, Result}
+use Rattle.outcome.specs.Outcomes.{Outcome, unless, said_by}
+use Rattle.outcome.specs.Outcomes.Outcome.{answer}
+use Rattle.outcome.specs.declared.Refusal.{Refusal}
 use Rattle.outcome.specs.Refusals.{wrong_length, word_too_large, first_bit_contradicts, own_address_reserved}
 use Rattle.division.specs.Division.{address_read}
 use Rattle.message.specs.Message.{number, format_number, is_message_length, first_bit_agrees, is_word}
 use Rattle.transponder.specs.declared.Reception.{Reception}
-use Rattle.transponder.specs.declared.Reception.TheVariants.{Own, AllCall, Broadcast, NotOurs, Refused}
+use Rattle.transponder.specs.declared.Reception.TheVariants.{Own, AllCall, Broadcast, NotOurs}
 
 -- The address that every transponder reads as sent to all (Annex 10 Volume IV).
 abbrev pub everyone : ℕ
@@ -23,12 +24,15 @@ is_broadcast_format format = eqb format 20 || eqb format 21
 
 -- What a Reception says: document 01's answers, numbered in the order of its list; not ours has the address read.
 -- Broadcast, which that list has not, is 4.
-abbrev pub said : Reception → Outcome
-said Own = answer 1 []
-said AllCall = answer 2 []
-said Broadcast = answer 4 []
-said (NotOurs a) = answer 3 (a ∷ [])
-said (Refused n) = refusal n
+abbrev pub answered : Reception → Outcome
+answered Own = answer 1 []
+answered AllCall = answer 2 []
+answered Broadcast = answer 4 []
+answered (NotOurs a) = answer 3 (a ∷ [])
+
+-- What a call says: a Reception, or the refusal.
+abbrev pub said : Result Reception Refusal → Outcome
+said = said_by answered
 
 -- The answer by the own address, the address read and the format number.
 unfoldable pub reception_of : ℕ → ℕ → ℕ → Reception
@@ -53,4 +57,4 @@ reception_outcome own m =
     (unless (is_word own) word_too_large
     (unless (first_bit_agrees m) first_bit_contradicts
     (unless (not (is_reserved own)) own_address_reserved
-    (said (reception_of own (address_read (number m)) (format_number m))))))
+    (answered (reception_of own (address_read (number m)) (format_number m))))))

@@ -8,4 +8,4 @@ pub long_remainder-requires : goal.long_remainder-requires
 long_remainder-requires c = long_message _ c.requires c.if-m-eq7.false
 
 pub returns-then-m-eq7 : goal.returns-then-m-eq7
-returns-then-m-eq7 c = c.remainder_of_word.ensures ∙ ap remainder c.seven_bytes.ensures
+returns-then-m-eq7 c = c.remainder_of_word.ensures ∙ ap remainder c.number_of.ensures

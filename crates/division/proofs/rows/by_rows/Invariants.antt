@@ -1,7 +1,7 @@
 -- `division::rows::by_rows` meets its contract. The loop's invariant: the sum and the rows of the bytes that are left are
 -- the rows of the field.
 use mathlib.Core.Path.{◌≡◌}
-use Prim.Native.Nat.{◌-◌, ◌*◌, ◌≤◌}
+use Prim.Native.Nat.{◌-◌, ◌*◌}
 use lib.Bits.{bit_xor}
 use lib.ListN.{length}
 use Rattle.division.specs.Ways.{row_sum}
@@ -10,8 +10,4 @@ use Rattle.division.proofs.rows.by_rows.Given as goal
 
 abbrev pub invariant-loop-i : goal.invariant-loop-i
 invariant-loop-i l =
-    (l.i ≤ length l.field)
-    × (bit_xor l.sum (row_sum (8 * (length l.field - l.i)) (number l.field)) ≡ row_sum (8 * length l.field) (number l.field))
-
-abbrev pub decreases-loop-i : goal.decreases-loop-i
-decreases-loop-i l = length l.field - l.i
+    bit_xor l.sum (row_sum (8 * (length l.field - l.i)) (number l.field)) ≡ row_sum (8 * length l.field) (number l.field)

@@ -1,14 +1,10 @@
 -- `division::rows::rows_of_byte` meets its contract. The loop's invariant: the sum and the rows of the bits that are left
 -- are the rows of the byte.
 use mathlib.Core.Path.{◌≡◌}
-use Prim.Native.Nat.{◌+◌, ◌-◌, ◌≤◌}
+use Prim.Native.Nat.{◌-◌}
 use lib.Bits.{bit_xor}
 use Rattle.division.specs.Ways.{rows_from}
 use Rattle.division.proofs.rows.rows_of_byte.Given as goal
 
-abbrev pub invariant-loop-left : goal.invariant-loop-left
-invariant-loop-left l =
-    (l.left ≤ 8) × (l.row + l.left ≡ l.at + 8) × (bit_xor l.sum (rows_from (80 - l.at) l.left l.bits) ≡ rows_from (80 - l.at) 8 l.bits)
-
-abbrev pub decreases-loop-left : goal.decreases-loop-left
-decreases-loop-left l = l.left
+abbrev pub invariant-loop-taken : goal.invariant-loop-taken
+invariant-loop-taken l = bit_xor l.sum (rows_from (80 - l.at) (8 - l.taken) l.bits) ≡ rows_from (80 - l.at) 8 l.bits
