@@ -9,18 +9,17 @@ use native.Mathlib.Omega.{arith}
 use lib.Dec.{eqb}
 use lib.IntN.{ℤ}
 use lib.ListN.{length}
-use borrow.Author.Tests.{eqb-true}
 use Rattle.outcome.specs.Outcomes.{done, Unrefused}
 use Rattle.outcome.specs.Refusals.{wrong_length, first_bit_contradicts, altitude_not_in_code}
-use Rattle.outcome.proofs.Laws.{or_cases, refusal_is_no_answer, same_answer, unless-answer}
+use Rattle.outcome.proofs.Laws.{refusal_is_no_answer, same_answer, unless-answer}
 use Rattle.message.specs.Message.{format_number, is_message_length, first_bit_agrees}
 use Rattle.altitude_code.specs.Altitudes.{in_code, code_of, decoded_of}
 use Rattle.altitude_code.specs.declared.Decoded.{Decoded}
 use Rattle.altitude_code.specs.declared.Decoded.TheVariants as D
 use Rattle.altitude.specs.Fields.{has_altitude, altitude_code, with_code}
-use Rattle.altitude.specs.Answers.{said_altitude, said_writing, known, reading_of, writing_outcome, writing_after}
+use Rattle.altitude.specs.Answers.{said_altitude, said_writing, reading_of, writing_outcome, writing_after}
 use Rattle.altitude.specs.declared.Writing.TheVariants.{Written, NoSuchField}
-use Rattle.altitude.specs.declared.Altitude.TheVariants as A
+use Rattle.std.specs.Prelude.{Option, None, Some, Ok}
 use Rattle.altitude.proofs.Answering.{refused-length, refused_bit, all-checked, writing-refused, writing-out, writing-in, left-refused, left_in}
 
 -- ---- a format with an altitude
@@ -31,38 +30,30 @@ has_by_format m n e = ap (λ (f : ℕ). eqb f 4 || eqb f 20) e
 
 pub has_format : (m : List ℕ) → has_altitude m ≡ true → (format_number m ≡ 4) ⊎ (format_number m ≡ 20)
 unfolding has_altitude
-has_format m e = by (or_cases _ _ e)
-  where
-    by : (eqb (format_number m) 4 ≡ true) ⊎ (eqb (format_number m) 20 ≡ true) → (format_number m ≡ 4) ⊎ (format_number m ≡ 20)
-    by (inl p) = inl (eqb-true _ _ p)
-    by (inr p) = inr (eqb-true _ _ p)
+has_format m e = grind arith
 
 pub format_has : (m : List ℕ) → (format_number m ≡ 4) ⊎ (format_number m ≡ 20) → has_altitude m ≡ true
 unfolding has_altitude
-format_has m (inl e) = ap (λ (f : ℕ). eqb f 4 || eqb f 20) e
-format_has m (inr e) = ap (λ (f : ℕ). eqb f 4 || eqb f 20) e
+format_has m e = grind arith
 
-pub reading_has : (m : List ℕ) → has_altitude m ≡ true → reading_of m ≡ known (decoded_of (altitude_code m))
+pub reading_has : (m : List ℕ) → has_altitude m ≡ true → reading_of m ≡ Some (decoded_of (altitude_code m))
 unfolding reading_of
-reading_has m e = ap (λ (t : Bool). cond t (known (decoded_of (altitude_code m))) A.NoSuchField) e
+reading_has m e = grind arith
 
-pub reading_has-not : (m : List ℕ) → has_altitude m ≡ false → reading_of m ≡ A.NoSuchField
+pub reading_has-not : (m : List ℕ) → has_altitude m ≡ false → reading_of m ≡ None
 unfolding reading_of
-reading_has-not m e = ap (λ (t : Bool). cond t (known (decoded_of (altitude_code m))) A.NoSuchField) e
+reading_has-not m e = grind arith
 
 -- no answer past the rows is a refusal
-pub reading_final : (m : List ℕ) → Unrefused (said_altitude (reading_of m))
-reading_final m = by (has_altitude m) refl
+pub reading_final : (m : List ℕ) → Unrefused (said_altitude (Ok (reading_of m)))
+reading_final m = final (reading_of m)
   where
-    no-refusal : (d : Decoded) → Unrefused (said_altitude (known d))
-    no-refusal (D.Feet z) n e = refusal_is_no_answer (sym e)
-    no-refusal D.NoAltitude n e = refusal_is_no_answer (sym e)
-    no-refusal D.Metric n e = refusal_is_no_answer (sym e)
-    no-refusal D.Illegal n e = refusal_is_no_answer (sym e)
-
-    by : (t : Bool) → has_altitude m ≡ t → Unrefused (said_altitude (reading_of m))
-    by true h n e = no-refusal (decoded_of (altitude_code m)) n (ap said_altitude (sym (reading_has m h)) ∙ e)
-    by false h n e = refusal_is_no_answer (sym e ∙ ap said_altitude (reading_has-not m h))
+    final : (o : Option Decoded) → Unrefused (said_altitude (Ok o))
+    final (Some (D.Feet z)) n e = refusal_is_no_answer (sym e)
+    final (Some D.NoAltitude) n e = refusal_is_no_answer (sym e)
+    final (Some D.Metric) n e = refusal_is_no_answer (sym e)
+    final (Some D.Illegal) n e = refusal_is_no_answer (sym e)
+    final None n e = refusal_is_no_answer (sym e)
 
 -- ---- the writer
 
@@ -75,15 +66,15 @@ pub record Wrote (m : List ℕ) (z : ℤ) (s : ℕ) : Type 0 where
 
 module _ (m : List ℕ) (z : ℤ) (s : ℕ) where
   pub wrote : is_message_length (length m) ≡ true → first_bit_agrees m ≡ true → in_code z s ≡ true → has_altitude m ≡ true
-      → Wrote m z s × (writing_outcome m z s ≡ said_writing Written)
+      → Wrote m z s × (writing_outcome m z s ≡ said_writing (Ok Written))
   wrote a b c d =
       let passed = all-checked m a b in
       let has = ap (λ (t : Bool). cond t (with_code m (code_of z s)) m) d in (
         record { long = a; agrees = b; in_code_lem = c; has = d; after = sym (left_in m z s passed c) ∙ has },
-        sym (writing-in m z s passed c) ∙ ap (λ (t : Bool). said_writing (cond t Written NoSuchField)) d,
+        sym (writing-in m z s passed c) ∙ ap (λ (t : Bool). said_writing (Ok (cond t Written NoSuchField))) d,
       )
 
-  pub was-written : writing_outcome m z s ≡ said_writing Written → Wrote m z s
+  pub was-written : writing_outcome m z s ≡ said_writing (Ok Written) → Wrote m z s
   unfolding writing_outcome
   was-written e =
       let first = unless-answer (is_message_length (length m)) wrong_length _ 0 [] e in
@@ -91,7 +82,7 @@ module _ (m : List ℕ) (z : ℤ) (s : ℕ) where
       let third = unless-answer (in_code z s) altitude_not_in_code _ 0 [] second.1 in
       (wrote first.0 second.0 third.0 (by (has_altitude m) third.1)).0
     where
-      by : (t : Bool) → said_writing (cond t Written NoSuchField) ≡ done → t ≡ true
+      by : (t : Bool) → said_writing (Ok (cond t Written NoSuchField)) ≡ done → t ≡ true
       by true e = refl
       by false e = absurd (let n = same_answer e in omega arith)
 

@@ -1,5 +1,4 @@
 -- The laws of the altitude code.
-pub mod Differences
 pub mod Digits
 pub mod Places
 pub mod Gray

@@ -1,27 +1,14 @@
 -- The places of C1 C2 C4 in the list of five patterns, in either order.
 use mathlib.Core.Path.{◌≡◌, refl, sym, ap, ◌∙◌}
-use mathlib.Core.Bool.{Bool, true, false, not, ◌||◌}
-use Prim.Native.Nat.{ℕ, zero, suc, ◌%◌, ◌^◌, ◌<◌}
+use mathlib.Core.Bool.{not, ◌||◌}
+use Prim.Native.Nat.{ℕ, zero, suc, ◌^◌, ◌<◌}
 use native.Mathlib.Omega.{arith}
 use lib.Dec.{eqb, ltb}
 use lib.ListN.{get_or}
-use borrow.Author.Tests.{eqb-true, ltb-true, ne_eqb, lt-ltb}
+use borrow.Author.Tests.{eqb-true, lt-ltb}
 use Rattle.outcome.proofs.Laws.{every, tested, when}
 use Rattle.altitude_code.specs.Codes.{c_patterns, in_order, c_pattern}
 use Rattle.altitude_code.specs.Altitudes.{place_in}
-
--- a number that is none of the five
-pub nowhere : (c : ℕ) → (c ≡ 1 → ⊥) → (c ≡ 3 → ⊥) → (c ≡ 2 → ⊥) → (c ≡ 6 → ⊥) → (c ≡ 4 → ⊥) → 5 ≡ place_in c c_patterns
-unfolding place_in
-nowhere c a b d e f = sym (simp (ne_eqb c 1 a, ne_eqb c 3 b, ne_eqb c 2 d, ne_eqb c 6 e, ne_eqb c 4 f))
-
--- past the five where it is not there
-place-le : (c : ℕ) → c < 2 ^ 3 → place_in c c_patterns < 6
-unfolding every place_in
-place-le c h = ltb-true _ _ (tested 3 (λ c. ltb (place_in c c_patterns) 6) refl c h)
-
-pub place-lt : {p : ℕ} (c : ℕ) → c < 2 ^ 3 → p ≡ place_in c c_patterns → (p ≡ 5 → ⊥) → p < 5
-place-lt c h e n = let l = place-le c h in omega arith
 
 -- what stands at the place of c is c
 at_place : (c : ℕ) → c < 2 ^ 3 → place_in c c_patterns < 5 → get_or c_patterns (place_in c c_patterns) 0 ≡ c
@@ -44,19 +31,11 @@ place_at_lem (suc (suc (suc (suc (suc i))))) h = absurd (omega arith)
 
 pub in_order_lt : (g i : ℕ) → i < 5 → in_order g i < 5
 unfolding in_order
-in_order_lt g i h = by (eqb (g % 2) 0) refl
-  where
-    by : (t : Bool) → eqb (g % 2) 0 ≡ t → in_order g i < 5
-    by true e = rw e h
-    by false e = rw e (omega arith)
+in_order_lt g i h = grind arith
 
 pub in_order_twice : (g i : ℕ) → i < 5 → in_order g (in_order g i) ≡ i
 unfolding in_order
-in_order_twice g i h = by (eqb (g % 2) 0) refl
-  where
-    by : (t : Bool) → eqb (g % 2) 0 ≡ t → in_order g (in_order g i) ≡ i
-    by true e = rw e
-    by false e = rw e (omega arith)
+in_order_twice g i h = grind arith
 
 -- C1 C2 C4 of the j-th altitude of g has its place in the list, and no other pattern has one
 pub pattern-place : (g j : ℕ) → j < 5 → place_in (c_pattern g j) c_patterns ≡ in_order g j

@@ -1,12 +1,10 @@
 -- Which altitude a code means, and which code means an altitude (document 02, Point 1; Annex 10 Volume IV).
-use Rattle.std.specs.Prelude.{ℕ, suc, ◌*◌, ◌/◌, ◌%◌, ◌^◌, Bool, cond, ◌&&◌, ◌||◌, List, [], ◌∷◌, eqb, ltb, ℤ, pos, negsuc, nat_abs, ◌+ℤ◌, ◌-ℤ◌}
+use Rattle.std.specs.Prelude.{ℕ, suc, ◌*◌, ◌/◌, ◌%◌, ◌^◌, Bool, cond, ◌&&◌, ◌||◌, List, [], ◌∷◌, eqb, ltb, Option, None, Some, ℤ, pos, negsuc, nat_abs, ◌+ℤ◌, ◌-ℤ◌}
 use Rattle.std.specs.Int.Signed.{le_z}
 use Rattle.altitude_code.specs.Gray.{gray, gray_number}
 use Rattle.altitude_code.specs.Codes.{binary, digit, M, Q, eleven_bits, gray_bits, c_bits, c_patterns, c_pattern, in_order}
 use Rattle.altitude_code.specs.declared.Decoded.{Decoded}
 use Rattle.altitude_code.specs.declared.Decoded.TheVariants.{Feet, NoAltitude, Metric, Illegal}
-use Rattle.altitude_code.specs.declared.Encoded.{Encoded}
-use Rattle.altitude_code.specs.declared.Encoded.TheVariants.{Code, OutOfCode}
 
 -- ---- from the code to the altitude
 
@@ -72,5 +70,5 @@ in_code z s = (eqb s 25 || eqb s 100) && (eqb (nat_abs z % s) 0 && (le_z (lowest
 unfoldable pub code_of : ℤ → ℕ → ℕ
 code_of z s = cond (eqb s 25) (code_by_25 (nat_abs (z +ℤ pos 1000) / 25)) (code_by_100 (nat_abs (z +ℤ pos 1200) / 100))
 
-unfoldable pub encoded_of : ℤ → ℕ → Encoded
-encoded_of z s = cond (in_code z s) (Code (code_of z s)) OutOfCode
+unfoldable pub encoded_of : ℤ → ℕ → Option ℕ
+encoded_of z s = cond (in_code z s) (Some (code_of z s)) None

@@ -5,16 +5,16 @@
 // the two ways between the two.
 #![tactic(auto)]
 
-ghost use Rattle.std.specs.Prelude.{◌<◌, ◌≤◌, ◌≡◌, pos, ◌-ℤ◌};
-ghost use Rattle.altitude_code.specs.Altitudes.{decoded_of, encoded_of, code_by_25, code_by_100};
-ghost use Rattle.altitude_code.specs.Counting.{above_lowest, encoded_from, is_at};
+ghost use Rattle.std.specs.Prelude.{◌<◌, ◌≤◌, ◌≡◌, ◌+◌, ◌*◌, pos, ◌-ℤ◌, IfSome};
+ghost use Rattle.altitude_code.specs.Altitudes.{decoded_of, encoded_of};
+ghost use Rattle.altitude_code.specs.Counting.{above_lowest, steps_from};
 
 mod bits;
 mod hundreds;
 mod table;
 
 // What a code means: an altitude in feet, none, a metric one that is not decoded, or nothing that the 100-foot code has.
-#[derive(Clone, Copy)]
+#[derive(Clone, Copy, Debug, PartialEq, Eq)]
 pub enum Decoded {
     Feet(i32),
     NoAltitude,
@@ -22,72 +22,49 @@ pub enum Decoded {
     Illegal,
 }
 
-// The code of an altitude, or that the code of that step has no such altitude.
-#[derive(Clone, Copy)]
-pub enum Encoded {
-    Code(u32),
-    OutOfCode,
-}
-
 // What a code means; of a number above 13 bits, its low 13.
+#[tactic(auto, using(crate::proofs::Decoding::decoding), unfolding(crate::specs::Altitudes::decoded_of, crate::specs::Codes::digit))]
 pub fn decode(code: u32) -> Decoded
     ensures { result ≡ decoded_of code }
 {
     if code % 8192 == 0 {
         return Decoded::NoAltitude;
     }
-    if code / 64 % 2 == 1 {
+    if bits::bit(code, bits::M) == 1 {
         return Decoded::Metric;
     }
-    if code / 16 % 2 == 1 {
-        let n = bits::eleven_bits(code);
-        return Decoded::Feet(feet(25 * n + 200));
+    if bits::bit(code, bits::Q) == 1 {
+        return Decoded::Feet(feet(25 * bits::eleven_bits(code) + 200));
     }
     hundreds::decode(code)
 }
 
-// The code of an altitude in steps of 25 or 100 feet.
-pub fn encode(altitude: i32, step: u32) -> Encoded
+// The code of an altitude in steps of 25 or 100 feet, or None where the code of that step has no such altitude. Any step may be
+// asked for: an enum of the two would take less than a caller may hold.
+#[tactic(auto, using(crate::proofs::Encoding::encoding))]
+pub fn encode(altitude: i32, step: u32) -> Option<u32>
     ensures { result ≡ encoded_of altitude step }
 {
-    let above = above_lowest(altitude);
-    if step == 25 {
-        return by_25(above);
-    }
-    if step == 100 {
-        return by_100(above);
-    }
-    Encoded::OutOfCode
-}
-
-fn by_25(above: u32) -> Encoded
-    ensures { result ≡ encoded_from 200 51375 25 code_by_25 above }
-{
-    if is_at(above, 200, 51375, 25) {
-        Encoded::Code(bits::with_eleven_bits((above - 200) / 25))
-    } else {
-        Encoded::OutOfCode
+    let above = above_lowest(altitude)?;
+    match step {
+        25 => steps_from(above, 200, 51375, 25).map(bits::with_eleven_bits),
+        100 => steps_from(above, 0, 127900, 100).map(table::pattern),
+        _ => None,
     }
 }
 
-fn by_100(above: u32) -> Encoded
-    ensures { result ≡ encoded_from 0 127900 100 code_by_100 above }
-{
-    if is_at(above, 0, 127900, 100) {
-        let step = above / 100;
-        Encoded::Code(table::pattern(step as usize))
-    } else {
-        Encoded::OutOfCode
-    }
-}
-
-// Whether it is a multiple of the step between the two ends, which belong to it.
-fn is_at(above: u32, low: u32, high: u32, step: u32) -> bool
+// How many steps it is above the low end, if it is a multiple of the step between the two ends, which belong to it.
+#[tactic(auto, unfolding(crate::specs::Counting::steps_from, crate::specs::Counting::is_at))]
+fn steps_from(above: u32, low: u32, high: u32, step: u32) -> Option<u32>
     requires { 0 < step }
-    ensures { result ≡ is_at low high step above }
+    ensures value { result ≡ steps_from low high step above }
+    ensures bound { IfSome result (λ steps. low + steps * step ≤ high) }
 {
-    let rest = above % step;
-    (rest == 0) & ((low <= above) & (above <= high))
+    if (low..=high).contains(&above) && above % step == 0 {
+        Some((above - low) / step)
+    } else {
+        None
+    }
 }
 
 // Feet above −1200 as an altitude.
@@ -95,18 +72,13 @@ pub(crate) fn feet(above: u32) -> i32
     requires { above ≤ 127900 }
     ensures { result ≡ pos above -ℤ pos 1200 }
 {
-    let up = above as i32;
-    up - 1200
+    above as i32 - 1200
 }
 
-// An altitude as feet above −1200; of a lower one, a number that neither code reaches.
-fn above_lowest(altitude: i32) -> u32
+// An altitude as feet above −1200, or None of a lower one.
+#[tactic(auto, unfolding(crate::specs::Counting::above_lowest))]
+fn above_lowest(altitude: i32) -> Option<u32>
     ensures { result ≡ above_lowest altitude }
 {
-    if altitude < -1200 {
-        return 0xFFFFFFFF;
-    }
-    let wide = altitude as i64;
-    let up = wide + 1200;
-    up as u32
+    1200_u32.checked_add_signed(altitude)
 }

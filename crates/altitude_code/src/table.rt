@@ -115,9 +115,9 @@ const PATTERNS: [u32; 1280] = [
 ];
 
 // The pattern of one of the 1280 altitudes.
-pub(crate) fn pattern(step: usize) -> u32
+pub(crate) fn pattern(step: u32) -> u32
     requires { step < 1280 }
     ensures { result ≡ code_by_100 step }
 {
-    PATTERNS[step]
+    PATTERNS[step as usize]
 }

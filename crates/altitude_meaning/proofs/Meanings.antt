@@ -8,13 +8,13 @@ use native.Mathlib.Omega.{arith}
 use lib.Dec.{eqb, ltb}
 use lib.IntN.{ℤ, sub_ℕ}
 use borrow.Author.Tests.{eqb-true, eqb-false, ltb-true, ltb-false}
+use Rattle.std.specs.Prelude.{Some}
 use Rattle.altitude_code.specs.Gray.{gray_number}
 use Rattle.altitude_code.specs.Codes.{digit, binary, M, Q, eleven_bits, gray_bits, c_bits, c_patterns, in_order}
 use Rattle.altitude_code.specs.Altitudes.{feet_by_25, feet_by_100, place_in, code_by_25, code_by_100, decoded_by_100, decoded_of, code_of, encoded_of}
 use Rattle.altitude_meaning.specs.Meaning.{Hundred, By25, By100, Means, Encodes}
 use Rattle.altitude_code.specs.declared.Decoded.{Decoded}
 use Rattle.altitude_code.specs.declared.Decoded.TheVariants.{Feet, NoAltitude, Metric, Illegal}
-use Rattle.altitude_code.specs.declared.Encoded.TheVariants.{Code}
 use Rattle.altitude_meaning.proofs.Tests.{number-gray, gray-number, number_lt, pattern_25, only_25, pattern_100, only_100}
 use Rattle.altitude_code.proofs.Laws.{bit_lt, eleven_lt, gray-lt, c_lt, in_order_lt, in_order_twice, pattern-place, place-pattern, InCode, was_in_code, in_25, of_25, feet_100, in_100, of_100, encoded_in, was_encoded, illegal, legal, decoded-none, decoded-metric, decoded-25, decoded-100}
 
@@ -137,7 +137,7 @@ module _ (k : ℕ) (small : k < 2 ^ 13) where
 
 -- ---- the code of an altitude
 
-pub encodes : (z : ℤ) (s k : ℕ) → encoded_of z s ≡ Code k → (k < 2 ^ 13) × Encodes z s k
+pub encodes : (z : ℤ) (s k : ℕ) → encoded_of z s ≡ Some k → (k < 2 ^ 13) × Encodes z s k
 unfolding Encodes By25 By100
 encodes z s k e =
     let in-it = was_encoded z s k e in
@@ -159,12 +159,12 @@ encodes z s k e =
         subst (λ (x : ℕ). (x < 2 ^ 13) × Encodes z s x) (sym is)
         (pattern.1, inr (p, (t.0 / 5, t.0 % 5, pattern.0, t.2 ∙ ap (λ (x : ℕ). sub_ℕ (100 * x) 1200) five ∙ sym (feet_100 (t.0 / 5) (t.0 % 5)))))
 
-pub encodes_only : (z : ℤ) (s k : ℕ) → k < 2 ^ 13 → Encodes z s k → encoded_of z s ≡ Code k
+pub encodes_only : (z : ℤ) (s k : ℕ) → k < 2 ^ 13 → Encodes z s k → encoded_of z s ≡ Some k
 unfolding Encodes By25 By100
 encodes_only z s k l (inl h) =
     let n : eleven_bits k < 2 ^ 11 = eleven_lt k in
     let i = in_25 (eleven_bits k) n in
-    ap₂ encoded_of h.1.2 h.0 ∙ encoded_in (feet_by_25 (eleven_bits k)) 25 i.0 ∙ ap Code (i.1 ∙ only_25 k l h.1.0 h.1.1)
+    ap₂ encoded_of h.1.2 h.0 ∙ encoded_in (feet_by_25 (eleven_bits k)) 25 i.0 ∙ ap Some (i.1 ∙ only_25 k l h.1.0 h.1.1)
 encodes_only z s k l (inr h) =
     let g : ℕ = h.1.0 in
     let j : ℕ = h.1.1 in
@@ -172,4 +172,4 @@ encodes_only z s k l (inr h) =
     let hg : g < 256 = r.eight in
     let hj : j < 5 = r.five in
     let i = in_100 (5 * g + j) (omega arith) in
-    ap₂ encoded_of (h.1.3 ∙ feet_100 g j) h.0 ∙ encoded_in (sub_ℕ (100 * (5 * g + j)) 1200) 100 i.0 ∙ ap Code (i.1 ∙ only-hundred k g j r l)
+    ap₂ encoded_of (h.1.3 ∙ feet_100 g j) h.0 ∙ encoded_in (sub_ℕ (100 * (5 * g + j)) 1200) 100 i.0 ∙ ap Some (i.1 ∙ only-hundred k g j r l)

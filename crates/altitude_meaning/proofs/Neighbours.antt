@@ -9,25 +9,26 @@ use lib.Bits.{bit_xor}
 use lib.Count.{ones_in, ones, ones_cat}
 use lib.Pow.{pow_pos}
 use lib.Dec.{eqb, ltb}
-use lib.IntN.{ℤ, pos, negsuc, sub_ℕ, ◌+ℤ◌, +ℤ_assoc, +ℤ_comm}
+use borrow.Author.Differences.{ints}
+use lib.IntN.{ℤ, pos, sub_ℕ, ◌+ℤ◌}
 use borrow.Author.Tests.{eqb-true, lt-ltb}
+use Rattle.std.specs.Prelude.{Some}
 use Rattle.outcome.proofs.Laws.{never, or_cases, every, tested, when}
 use Rattle.altitude_code.specs.Gray.{gray}
 use Rattle.altitude_code.specs.Codes.{binary, digit, in_order, c_pattern}
 use Rattle.altitude_code.specs.Altitudes.{placed, code_by_100, code_of, encoded_of}
 use Rattle.altitude_code.specs.Counting.{above_lowest}
-use Rattle.altitude_code.specs.declared.Encoded.TheVariants.{Code}
 use Rattle.altitude_code.proofs.Laws.{above-feet, was_in_code, in_100, of_100, was_encoded}
 
 -- the steps of an altitude in the 100-foot code
-steps : (z : ℤ) (k : ℕ) → encoded_of z 100 ≡ Code k → (t : ℕ) × (t < 1280) × (z ≡ sub_ℕ (100 * t) 1200) × (k ≡ code_by_100 t)
+steps : (z : ℤ) (k : ℕ) → encoded_of z 100 ≡ Some k → (t : ℕ) × (t < 1280) × (z ≡ sub_ℕ (100 * t) 1200) × (k ≡ code_by_100 t)
 steps z k e =
     let in-it = was_encoded z 100 k e in
     let t = of_100 z (was_in_code z 100 in-it.0) in
     (t.0, t.1, t.2, sym in-it.1 ∙ ap (λ (y : ℤ). code_of y 100) t.2 ∙ (in_100 t.0 t.1).1)
 
 next-step : (a : ℕ) → sub_ℕ a 1200 +ℤ pos 100 ≡ sub_ℕ (a + 100) 1200
-next-step a = +ℤ_assoc (pos a) (negsuc 1199) (pos 100) ∙ ap (λ (y : ℤ). pos a +ℤ y) (+ℤ_comm (negsuc 1199) (pos 100)) ∙ sym (+ℤ_assoc (pos a) (pos 100) (negsuc 1199))
+next-step a = grind (arith, ints)
 
 -- one of the lowest w bits, alone
 is_one_of : ℕ → ℕ → Bool
@@ -53,12 +54,13 @@ one_bit t h =
     (when (ltb (suc t) 1280) (is_one_of 13 (bit_xor (code_by_100 t) (code_by_100 (suc t))))
     (tested 11 (λ t. not (ltb (suc t) 1280) || is_one_of 13 (bit_xor (code_by_100 t) (code_by_100 (suc t)))) refl t (omega arith)) (lt-ltb (suc t) 1280 h))
 
-pub neighbours : (z : ℤ) (j k : ℕ) → encoded_of z 100 ≡ Code j → encoded_of (z +ℤ pos 100) 100 ≡ Code k → ones (bit_xor j k) ≡ 1
+pub neighbours : (z : ℤ) (j k : ℕ) → encoded_of z 100 ≡ Some j → encoded_of (z +ℤ pos 100) 100 ≡ Some k → ones (bit_xor j k) ≡ 1
 neighbours z j k e f =
     let a = steps z j e in
     let b = steps (z +ℤ pos 100) k f in
-    let up : 100 * b.0 ≡ 100 * a.0 + 100 =
+    let above : Some (100 * b.0) ≡ Some (100 * a.0 + 100) =
     sym (above-feet (100 * b.0)) ∙ ap above_lowest (sym b.2 ∙ ap (λ (y : ℤ). y +ℤ pos 100) a.2 ∙ next-step (100 * a.0)) ∙ above-feet (100 * a.0 + 100) in
+    let up : 100 * b.0 ≡ 100 * a.0 + 100 = cc in
     let next : b.0 ≡ suc a.0 = omega arith in
     let small : b.0 < 1280 = b.1 in
     ap₂ (λ (x y : ℕ). ones (bit_xor x y)) a.3 (b.3 ∙ ap code_by_100 next) ∙ one_bit a.0 (omega arith)

@@ -18,10 +18,10 @@ use Rattle.division.specs.Division.{remainder, parity, overlay, address_read}
 use Rattle.division.proofs.Laws.{xor_cancel, remainder-xor, burst_noticed, address_law, address_read-lt, remainder_by_address, overlay-lt}
 use Rattle.encoder.specs.Seals.{interrogation_after, with_parity}
 use Rattle.encoder.proofs.Laws.{was_accepted, interrogation_after_lem, interrogation_is, sealed-length, sealed-bytes, reply-lt}
-use Rattle.transponder.specs.Receptions.{everyone, reception_of, reception_outcome, said}
+use Rattle.transponder.specs.Receptions.{everyone, reception_of, reception_outcome, answered}
 use Rattle.transponder.specs.declared.Reception.{Reception}
-use Rattle.transponder.specs.declared.Reception.TheVariants.{Own, AllCall, Broadcast, NotOurs, Refused}
-use Rattle.transponder.proofs.Laws.{Case, case, case_only, Admitted, admitted, said_injective}
+use Rattle.transponder.specs.declared.Reception.TheVariants.{Own, AllCall, Broadcast, NotOurs}
+use Rattle.transponder.proofs.Laws.{Case, case, case_only, Admitted, admitted, answered_injective}
 use Rattle.conformance.specs.Bursts.{Burst}
 use Rattle.conformance.specs.Accepting.{Due, OursIsDue, OnlyOneIsDue, ExactlyOneIsDue, SaysOwn, SaysAllCall, SaysBroadcast, SaysNotOurs, BurstNeverOwn}
 use Rattle.conformance.specs.Sealing.{SealedCallIsRead}
@@ -45,7 +45,6 @@ module _ (own : ℕ) (m : List ℕ) (ok : Admitted own m) where
         (λ q. h.1 (sym h.0 ∙ q)),
         (λ q. h.2 (sym h.0 ∙ q)),
       )
-  due-of (Refused n) h = h
 
   of-due : (r : Reception) → Due own m r → Case own a (format_number m) r
   unfolding Due a
@@ -59,7 +58,6 @@ module _ (own : ℕ) (m : List ℕ) (ok : Admitted own m) where
   of-due (NotOurs b) h =
       let same : address_read (number m) ≡ b = (address_law (number m) b h.0).1 h.1 in
       (sym same, (λ q. h.2 (sym same ∙ q)), (λ q. h.3 (sym same ∙ q)))
-  of-due (Refused n) h = h
 
 pub ours_is_due : OursIsDue
 unfolding OursIsDue a
@@ -72,23 +70,23 @@ pub only_one_is_due : OnlyOneIsDue
 unfolding OnlyOneIsDue a
 only_one_is_due own m h r d =
     let ok = admitted own m h in
-    ok.outcome ∙ ap said (sym (case_only own (address_read (number m)) (format_number m) r (of-due own m ok r d)))
+    ok.outcome ∙ ap answered (sym (case_only own (address_read (number m)) (format_number m) r (of-due own m ok r d)))
 
 pub exactly_one_is_due : ExactlyOneIsDue
 unfolding ExactlyOneIsDue OursIsDue OnlyOneIsDue
 exactly_one_is_due own m h =
     let ours = ours_is_due own m h in (
       ours.0,
-      λ s. ((λ d. said_injective s ours.0 (sym (only_one_is_due own m h s d) ∙ ours.1)), λ e. subst (Due own m) (sym e) ours.2),
+      λ s. ((λ d. answered_injective s ours.0 (sym (only_one_is_due own m h s d) ∙ ours.1)), λ e. subst (Due own m) (sym e) ours.2),
     )
 
 -- ---- the sentences
 
-sentence : (own : ℕ) (m : List ℕ) → Unrefused (reception_outcome own m) → (r : Reception) → (reception_outcome own m ≡ said r) ↔ Due own m r
+sentence : (own : ℕ) (m : List ℕ) → Unrefused (reception_outcome own m) → (r : Reception) → (reception_outcome own m ≡ answered r) ↔ Due own m r
 unfolding OursIsDue OnlyOneIsDue
 sentence own m h r =
     let ours = ours_is_due own m h in
-    ((λ e. subst (Due own m) (said_injective ours.0 r (sym ours.1 ∙ e)) ours.2), only_one_is_due own m h r)
+    ((λ e. subst (Due own m) (answered_injective ours.0 r (sym ours.1 ∙ e)) ours.2), only_one_is_due own m h r)
 
 pub says_own : SaysOwn
 unfolding SaysOwn Due
@@ -109,7 +107,7 @@ says_not_ours own m x h = sentence own m h (NotOurs x)
 -- ---- bursts
 
 -- what an 'own' was read as, also without knowing that the call was not refused
-pub own_read : (own : ℕ) (m : List ℕ) → reception_outcome own m ≡ said Own → address_read (number m) ≡ own
+pub own_read : (own : ℕ) (m : List ℕ) → reception_outcome own m ≡ answered Own → address_read (number m) ≡ own
 unfolding SaysOwn
 own_read own m o = (address_law (number m) own (admitted own m unrefused).own_lt).1 ((says_own own m unrefused).0 o)
   where

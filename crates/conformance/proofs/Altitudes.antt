@@ -18,26 +18,18 @@ use Rattle.altitude_code.specs.Codes.{Q}
 use Rattle.altitude_code.specs.Altitudes.{decoded_of, code_of, encoded_of}
 use Rattle.altitude_code.specs.declared.Decoded.{Decoded}
 use Rattle.altitude_code.specs.declared.Decoded.TheVariants as D
-use Rattle.altitude_code.specs.declared.Encoded.TheVariants.{Code}
 use Rattle.altitude_code.proofs.Laws.{encoded_in, was_encoded}
 use Rattle.altitude_meaning.specs.Meaning.{By25, By100, Means, Encodes}
 use Rattle.altitude_meaning.proofs.Laws.{means, means-only, encodes, encodes_only, neighbours, by_25, by_100, illegal}
 use Rattle.altitude.specs.Fields.{has_altitude, altitude_code, with_code}
-use Rattle.altitude.specs.Answers.{said_altitude, said_writing, known, reading_of, reading_outcome, writing_outcome, writing_after}
-use Rattle.altitude.specs.declared.Altitude.{Altitude}
-use Rattle.altitude.specs.declared.Altitude.TheVariants.{Feet, NoAltitude, Metric, Illegal, NoSuchField, Refused}
+use Rattle.altitude.specs.Answers.{said_field, said_written, reading_of, reading_outcome, writing_outcome, writing_after}
+use Rattle.std.specs.Prelude.{Option, Some, None, Result, Ok}
+use Rattle.outcome.specs.declared.Refusal.{Refusal}
 use Rattle.altitude.specs.declared.Writing.TheVariants.{Written}
 use Rattle.altitude.proofs.Laws.{With, with_code_lem, with_own, four_bytes, Readable, readable, reading-passed, all-checked, said_injective, code_lt, has_by_format, has_format, format_has, reading_has, reading_has-not, Wrote, wrote, was-written, after-cases}
 use Rattle.conformance.specs.Altitudes.{HasField, Told, OursIsTold, OnlyOneIsTold, WrittenIsRead, WrittenInStep, OthersStay, ParityStays, NothingElsewhere, step_of, ReadIsWritten, OneAltitude, OnePattern, CodesCounted, ElseIllegal, NeighboursDiffer}
 
 -- ---- the reader
-
-told-known : (m : List ℕ) → HasField m → (d : Decoded) → Means (altitude_code m) d → Told m (known d)
-unfolding Told
-told-known m f (D.Feet z) h = (f, h)
-told-known m f D.NoAltitude h = (f, h)
-told-known m f D.Metric h = (f, h)
-told-known m f D.Illegal h = (f, h)
 
 told : (m : List ℕ) → Told m (reading_of m)
 unfolding Told HasField
@@ -45,30 +37,26 @@ told m = by (has_altitude m) refl
   where
     by : (t : Bool) → has_altitude m ≡ t → Told m (reading_of m)
     by true e =
-        subst (Told m) (sym (reading_has m e))
-        (told-known m (has_format m e) (decoded_of (altitude_code m)) (means (altitude_code m) (code_lt m)))
+        subst (Told m) (sym (reading_has m e)) (has_format m e, means (altitude_code m) (code_lt m))
     by false e = subst (Told m) (sym (reading_has-not m e)) (λ f. never (format_has m f) e)
 
 pub ours_is_told : OursIsTold
 unfolding OursIsTold
 ours_is_told m h = (reading_of m, (readable m h).outcome, told m)
 
-told_only : (m : List ℕ) (r : Altitude) → Told m r → r ≡ reading_of m
+told_only : (m : List ℕ) (r : Option Decoded) → Told m r → r ≡ reading_of m
 unfolding Told HasField
-told_only m (Feet z) h = ap known (means-only (altitude_code m) (code_lt m) (D.Feet z) h.1) ∙ sym (reading_has m (format_has m h.0))
-told_only m NoAltitude h = ap known (means-only (altitude_code m) (code_lt m) D.NoAltitude h.1) ∙ sym (reading_has m (format_has m h.0))
-told_only m Metric h = ap known (means-only (altitude_code m) (code_lt m) D.Metric h.1) ∙ sym (reading_has m (format_has m h.0))
-told_only m Illegal h = ap known (means-only (altitude_code m) (code_lt m) D.Illegal h.1) ∙ sym (reading_has m (format_has m h.0))
-told_only m NoSuchField h = by (has_altitude m) refl
+told_only m (Some d) h =
+    ap (λ (x : Decoded). Some x) (means-only (altitude_code m) (code_lt m) d h.1) ∙ sym (reading_has m (format_has m h.0))
+told_only m None h = by (has_altitude m) refl
   where
-    by : (t : Bool) → has_altitude m ≡ t → NoSuchField ≡ reading_of m
+    by : (t : Bool) → has_altitude m ≡ t → None ≡ reading_of m
     by true e = absurd (h (has_format m e))
     by false e = sym (reading_has-not m e)
-told_only m (Refused n) h = absurd h
 
 pub only_one_is_told : OnlyOneIsTold
 unfolding OnlyOneIsTold
-only_one_is_told m h r t = (readable m h).outcome ∙ ap said_altitude (sym (told_only m r t))
+only_one_is_told m h r t = (readable m h).outcome ∙ ap said_field (sym (told_only m r t))
 
 -- ---- the codes
 
@@ -84,7 +72,7 @@ unfolding Encodes Means By25 By100
 means_encodes z k (inl h) = inl (ap (λ (t : Bool). cond t 25 100) (eq-eqb (Q k) 1 h.1), h)
 means_encodes z k (inr h) = inr (ap (λ (t : Bool). cond t 25 100) (ne_eqb (Q k) 1 (λ e. let q : Q k ≡ 0 = h.2.no_step_25 in omega arith)), h)
 
-decoded_again : (z : ℤ) (s k : ℕ) → encoded_of z s ≡ Code k → decoded_of k ≡ D.Feet z
+decoded_again : (z : ℤ) (s k : ℕ) → encoded_of z s ≡ Some k → decoded_of k ≡ D.Feet z
 decoded_again z s k e = let c = encodes z s k e in sym (means-only k c.0 (D.Feet z) (encodes_means z s k c.1))
 
 pub one-altitude : OneAltitude
@@ -117,16 +105,9 @@ seven m e = by (message-length (length m) e)
     by (inl p) = omega arith
     by (inr p) = omega arith
 
--- an answer in feet is a code in feet
-known-feet : (d : Decoded) (z : ℤ) → known d ≡ Feet z → d ≡ D.Feet z
-known-feet (D.Feet y) z e = let same : y ≡ z = cc in ap D.Feet same
-known-feet D.NoAltitude z e = absurd (let q : ◌≡◌ {A = ℕ} 0 1 = cc in omega arith)
-known-feet D.Metric z e = absurd (let q : ◌≡◌ {A = ℕ} 0 1 = cc in omega arith)
-known-feet D.Illegal z e = absurd (let q : ◌≡◌ {A = ℕ} 0 1 = cc in omega arith)
-
 -- what was written
 module _ (m : List ℕ) (z : ℤ) (s : ℕ) (hm : Bytes m) (w : Wrote m z s) where
-  encoded : encoded_of z s ≡ Code (code_of z s)
+  encoded : encoded_of z s ≡ Some (code_of z s)
   encoded = encoded_in z s w.in_code_lem
 
   with_it : With m (code_of z s)
@@ -137,7 +118,7 @@ module _ (m : List ℕ) (z : ℤ) (s : ℕ) (hm : Bytes m) (w : Wrote m z s) whe
 
 pub written_is_read : WrittenIsRead
 unfolding WrittenIsRead
-written_is_read m z s hm e = sym (reading-passed a (all-checked a long agrees)) ∙ ap said_altitude (reading_has a has ∙ ap known (ap decoded_of (code_is m z s hm w) ∙ decoded_again z s (code_of z s) (encoded m z s hm w)))
+written_is_read m z s hm e = sym (reading-passed a (all-checked a long agrees)) ∙ ap said_field (reading_has a has ∙ ap (λ (x : Decoded). Some x) (ap decoded_of (code_is m z s hm w) ∙ decoded_again z s (code_of z s) (encoded m z s hm w)))
   where
     w : Wrote m z s
     w = was-written m z s e
@@ -202,16 +183,19 @@ read_is_written m z hm e = by (has_altitude m) refl
     ok : Readable m
     ok = readable m unrefused
 
-    read : Feet z ≡ reading_of m
-    read = said_injective (Feet z) (reading_of m) (sym e ∙ ok.outcome)
+    read : Some (D.Feet z) ≡ reading_of m
+    read =
+        let f : ◌≡◌ {A = Result (Option Decoded) Refusal} (Ok (Some (D.Feet z))) (Ok (reading_of m)) = said_injective _ _ (sym e ∙ ok.outcome) in
+        cc
 
     k : ℕ
     k = altitude_code m
 
-    by : (t : Bool) → has_altitude m ≡ t → (writing_outcome m z (step_of k) ≡ said_writing Written) × (writing_after m z (step_of k) ≡ m)
+    by : (t : Bool) → has_altitude m ≡ t → (writing_outcome m z (step_of k) ≡ said_written Written) × (writing_after m z (step_of k) ≡ m)
     by true h =
-        let is : decoded_of k ≡ D.Feet z = known-feet (decoded_of k) z (sym (read ∙ reading_has m h)) in
+        let same : ◌≡◌ {A = Option Decoded} (Some (D.Feet z)) (Some (decoded_of k)) = read ∙ reading_has m h in
+        let is : decoded_of k ≡ D.Feet z = cc in
         let c = was_encoded z (step_of k) k (one-pattern z k (code_lt m) is) in
         let w = wrote m z (step_of k) ok.long ok.agrees c.0 h in
         (w.1, w.0.after ∙ ap (with_code m) c.1 ∙ with_own m hm (four_bytes m ok.long))
-    by false h = absurd (let n : NoSuchField ≡ Feet z = sym (reading_has-not m h) ∙ sym read in let q : ◌≡◌ {A = ℕ} 0 1 = cc in omega arith)
+    by false h = absurd (let n : ◌≡◌ {A = Option Decoded} None (Some (D.Feet z)) = sym (reading_has-not m h) ∙ sym read in let q : ◌≡◌ {A = ℕ} 0 1 = cc in omega arith)

@@ -10,6 +10,8 @@ use lib.Bits.{bit_xor}
 use lib.Dec.{eqb, leb}
 use lib.ListN.{length, get_or}
 use borrow.Author.Tests.{eqb-true, eqb-false, leb-true, leb-false}
+use Rattle.std.specs.Prelude.{Option, Some, None, Result, Ok, Err}
+use Rattle.outcome.specs.declared.Refusal.{Refusal}
 use Rattle.outcome.specs.Outcomes.{done, Unrefused}
 use Rattle.outcome.specs.Outcomes.Outcome.{refusal}
 use Rattle.outcome.proofs.Laws.{never, refusal_is_no_answer}
@@ -20,13 +22,13 @@ use Rattle.division.specs.Division.{ReadsAs, parity, overlay}
 use Rattle.division.proofs.Laws.{address_law}
 use Rattle.encoder.specs.Seals.{with_parity, seal_outcome, interrogation_after}
 use Rattle.encoder.proofs.Laws.{interrogation_after_lem, interrogation_is, sealed-length, sealed_first}
-use Rattle.transponder.specs.Receptions.{Permitted, reception_outcome, said}
+use Rattle.transponder.specs.Receptions.{Permitted, reception_outcome, answered}
 use Rattle.transponder.specs.declared.Reception.{Reception}
 use Rattle.transponder.specs.declared.Reception.TheVariants as R
 use Rattle.antennas.specs.Antennas.{is_taken, antenna_of, Part, part_of, said as said_antenna}
 use Rattle.antennas.specs.declared.Antenna.{Antenna}
-use Rattle.antennas.specs.declared.Antenna.TheVariants.{Upper, Lower, Neither, Refused}
-use Rattle.antennas.proofs.Laws.{Case, case, case_only, said_injective, unrefused-choice}
+use Rattle.antennas.specs.declared.Antenna.TheVariants.{Upper, Lower}
+use Rattle.antennas.proofs.Laws.{Case, case, case_only, no_refusal, unrefused-choice}
 use Rattle.conformance.specs.Refusals.{row, Wrong, handed, outcome, Breaks, SomeBreaks, Applies, RefusedByLowest, UnrefusedWhereNone}
 use Rattle.conformance.specs.Refusals.Part.{message, word, judged, own_address}
 use Rattle.conformance.specs.Refusals.Call.{receive, seal_interrogation, taken_antenna}
@@ -118,15 +120,15 @@ module _ (own : ℕ) (u : List ℕ) (p : ℕ) (l : List ℕ) (q : ℕ) where
 -- ---- what is taken
 
 accepted : (own : ℕ) (m : List ℕ) → Permitted own → Taken own m
-    → (reception_outcome own m ≡ said R.Own) ⊎ ((reception_outcome own m ≡ said R.AllCall) ⊎ (reception_outcome own m ≡ said R.Broadcast))
+    → (reception_outcome own m ≡ answered R.Own) ⊎ ((reception_outcome own m ≡ answered R.AllCall) ⊎ (reception_outcome own m ≡ answered R.Broadcast))
 unfolding Taken OnlyOneIsDue Due
 accepted own m h (k, r) = by r
   where
-    due : (r : Reception) → Due own m r → reception_outcome own m ≡ said r
+    due : (r : Reception) → Due own m r → reception_outcome own m ≡ answered r
     due = only_one_is_due own m (receives own m h k)
 
     by : ReadsAs (number m) own ⊎ (ReadsAs (number m) 0xFFFFFF × ((format_number m ≡ 11) ⊎ ((format_number m ≡ 20) ⊎ (format_number m ≡ 21))))
-        → (reception_outcome own m ≡ said R.Own) ⊎ ((reception_outcome own m ≡ said R.AllCall) ⊎ (reception_outcome own m ≡ said R.Broadcast))
+        → (reception_outcome own m ≡ answered R.Own) ⊎ ((reception_outcome own m ≡ answered R.AllCall) ⊎ (reception_outcome own m ≡ answered R.Broadcast))
     by (inl r) = inl (due R.Own r)
     by (inr (r, inl f)) = inr (inl (due R.AllCall (r, f)))
     by (inr (r, inr f)) = inr (inr (due R.Broadcast (r, f)))
@@ -139,21 +141,20 @@ tested own m t = by ours.0 ours.1 ours.2
     unrefused : Unrefused (reception_outcome own m)
     unrefused n e = never t (ap is_taken e)
 
-    ours : (r : Reception) × (reception_outcome own m ≡ said r) × Due own m r
+    ours : (r : Reception) × (reception_outcome own m ≡ answered r) × Due own m r
     ours = ours_is_due own m unrefused
 
-    by : (r : Reception) → reception_outcome own m ≡ said r → Due own m r
+    by : (r : Reception) → reception_outcome own m ≡ answered r → Due own m r
         → Whole m × (ReadsAs (number m) own ⊎ (ReadsAs (number m) 0xFFFFFF × ((format_number m ≡ 11) ⊎ ((format_number m ≡ 20) ⊎ (format_number m ≡ 21)))))
     by R.Own e d = (received own m unrefused, inl d)
     by R.AllCall e d = (received own m unrefused, inr (d.0, inl d.1))
     by R.Broadcast e d = (received own m unrefused, inr (d.0, inr d.1))
     by (R.NotOurs a) e d = absurd (never t (ap is_taken e))
-    by (R.Refused n) e d = absurd d
 
 tests : (own : ℕ) (m : List ℕ) → Permitted own → Taken own m → is_taken (reception_outcome own m) ≡ true
 tests own m h t = by (accepted own m h t)
   where
-    by : (reception_outcome own m ≡ said R.Own) ⊎ ((reception_outcome own m ≡ said R.AllCall) ⊎ (reception_outcome own m ≡ said R.Broadcast))
+    by : (reception_outcome own m ≡ answered R.Own) ⊎ ((reception_outcome own m ≡ answered R.AllCall) ⊎ (reception_outcome own m ≡ answered R.Broadcast))
         → is_taken (reception_outcome own m) ≡ true
     by (inl e) = ap is_taken e
     by (inr (inl e)) = ap is_taken e
@@ -163,7 +164,7 @@ pub taken_is_accepted : TakenIsAccepted
 unfolding TakenIsAccepted
 taken_is_accepted own m h = (accepted own m h, back)
   where
-    back : (reception_outcome own m ≡ said R.Own) ⊎ ((reception_outcome own m ≡ said R.AllCall) ⊎ (reception_outcome own m ≡ said R.Broadcast)) → Taken own m
+    back : (reception_outcome own m ≡ answered R.Own) ⊎ ((reception_outcome own m ≡ answered R.AllCall) ⊎ (reception_outcome own m ≡ answered R.Broadcast)) → Taken own m
     back (inl e) = tested own m (ap is_taken e)
     back (inr (inl e)) = tested own m (ap is_taken e)
     back (inr (inr e)) = tested own m (ap is_taken e)
@@ -174,6 +175,9 @@ refused-not-taken own m n h e t = never (tests own m h t) (ap is_taken e)
 
 -- ---- the companion
 
+ok_same : {x y : Option Antenna} → ◌≡◌ {A = Result (Option Antenna) Refusal} (Ok x) (Ok y) → x ≡ y
+ok_same e = cc
+
 module _ (own : ℕ) (u : List ℕ) (p : ℕ) (l : List ℕ) (q : ℕ) where
   s : Bool
   s = is_taken (reception_outcome own u)
@@ -181,37 +185,37 @@ module _ (own : ℕ) (u : List ℕ) (p : ℕ) (l : List ℕ) (q : ℕ) where
   t : Bool
   t = is_taken (reception_outcome own l)
 
-  given : (x : Antenna) → Unrefused (said_antenna x) → antenna_of own u p l q ≡ x → Permitted own × Case s p t q x
+  given : (x : Option Antenna) → antenna_of own u p l q ≡ Ok x → Permitted own × Case s p t q x
   unfolding s t
-  given x f e =
-      let unrefused : Unrefused (said_antenna (antenna_of own u p l q)) = λ n r. f n (sym (ap said_antenna e) ∙ r) in
-      (answers own u p l q unrefused, subst (Case s p t q) (unrefused-choice own u p l q unrefused ∙ e) (case s p t q))
+  given x e =
+      let unrefused : Unrefused (said_antenna (antenna_of own u p l q)) = λ n r. no_refusal x n (sym r ∙ ap said_antenna e) in
+      (answers own u p l q unrefused, subst (Case s p t q) (ok_same (unrefused-choice own u p l q unrefused ∙ e)) (case s p t q))
 
-  gives : (x : Antenna) → Permitted own → Case s p t q x → antenna_of own u p l q ≡ x
+  gives : (x : Option Antenna) → Permitted own → Case s p t q x → antenna_of own u p l q ≡ Ok x
   unfolding s t
-  gives x h k = sym (case_only s p t q x k ∙ unrefused-choice own u p l q (is-answered own u p l q h))
+  gives x h k = sym (ap (λ (y : Option Antenna). Ok y) (case_only s p t q x k) ∙ unrefused-choice own u p l q (is-answered own u p l q h))
 
-  upper-exactly : (antenna_of own u p l q ≡ Upper) ↔ (Permitted own × Taken own u × (Taken own l → q ≤ p))
+  upper-exactly : (antenna_of own u p l q ≡ Ok (Some Upper)) ↔ (Permitted own × Taken own u × (Taken own l → q ≤ p))
   unfolding s t
   upper-exactly = (
-    (λ e. let k = given Upper (λ n r. refusal_is_no_answer (sym r)) e in (k.0, tested own u k.1.0, λ f. k.1.1 (tests own l k.0 f))),
-    λ h. gives Upper h.0 (tests own u h.0 h.1, λ f. h.2 (tested own l f)),
+    (λ e. let k = given (Some Upper) e in (k.0, tested own u k.1.0, λ f. k.1.1 (tests own l k.0 f))),
+    λ h. gives (Some Upper) h.0 (tests own u h.0 h.1, λ f. h.2 (tested own l f)),
   )
 
-  lower-exactly : (antenna_of own u p l q ≡ Lower) ↔ (Permitted own × Taken own l × (Taken own u → p < q))
+  lower-exactly : (antenna_of own u p l q ≡ Ok (Some Lower)) ↔ (Permitted own × Taken own l × (Taken own u → p < q))
   unfolding s t
   lower-exactly = (
-    (λ e. let k = given Lower (λ n r. refusal_is_no_answer (sym r)) e in (k.0, tested own l k.1.0, λ f. k.1.1 (tests own u k.0 f))),
-    λ h. gives Lower h.0 (tests own l h.0 h.1, λ f. h.2 (tested own u f)),
+    (λ e. let k = given (Some Lower) e in (k.0, tested own l k.1.0, λ f. k.1.1 (tests own u k.0 f))),
+    λ h. gives (Some Lower) h.0 (tests own l h.0 h.1, λ f. h.2 (tested own u f)),
   )
 
-  neither-exactly : (antenna_of own u p l q ≡ Neither) ↔ (Permitted own × (Taken own u → ⊥) × (Taken own l → ⊥))
+  neither-exactly : (antenna_of own u p l q ≡ Ok None) ↔ (Permitted own × (Taken own u → ⊥) × (Taken own l → ⊥))
   unfolding s t
   neither-exactly = (
     (λ e.
-        let k = given Neither (λ n r. refusal_is_no_answer (sym r)) e in
+        let k = given None e in
         (k.0, (λ f. k.1.0 (tests own u k.0 f)), λ f. k.1.1 (tests own l k.0 f))),
-    λ h. gives Neither h.0 ((λ f. h.1 (tested own u f)), λ f. h.2 (tested own l f)),
+    λ h. gives None h.0 ((λ f. h.1 (tested own u f)), λ f. h.2 (tested own l f)),
   )
 
 pub says_upper : SaysUpper
@@ -228,7 +232,7 @@ says_neither = neither-exactly
 
 pub says_refused : SaysRefused
 unfolding SaysRefused RefusedByLowest Applies SomeBreaks Breaks handed outcome row Wrong
-says_refused own u p l q n = ((λ e. there (lowest.0 (ap said_antenna e)).0), λ h. said_injective _ (Refused n) (lowest.1 (back h)))
+says_refused own u p l q n = ((λ e. there (lowest.0 e).0), λ h. lowest.1 (back h))
   where
     Row : ℕ → Type 0
     Row k = Breaks k (word own) ⊎ (Breaks k (own_address own) ⊎ ⊥)
@@ -274,60 +278,60 @@ has-bytes m k e = by (field_sizes m k)
     by (inr f) = omega (arith, f, ap length e)
 
 module _ (own : ℕ) (upper : Part) (p : ℕ) (lower : Part) (q : ℕ) where
-  answer : Antenna
+  answer : Result (Option Antenna) Refusal
   answer = antenna_of own upper.1 p lower.1 q
 
-  part : Antenna → Part
+  part : Result (Option Antenna) Refusal → Part
   part x = part_of x upper lower
 
-  upper-whole : answer ≡ Upper → Whole upper.1
+  upper-whole : answer ≡ Ok (Some Upper) → Whole upper.1
   unfolding answer Taken
   upper-whole e = ((upper-exactly own upper.1 p lower.1 q).0 e).1.0
 
-  lower-whole : answer ≡ Lower → Whole lower.1
+  lower-whole : answer ≡ Ok (Some Lower) → Whole lower.1
   unfolding answer Taken
   lower-whole e = ((lower-exactly own upper.1 p lower.1 q).0 e).1.0
 
-  upper-field : answer ≡ Upper → IsField (part answer) upper
+  upper-field : answer ≡ Ok (Some Upper) → IsField (part answer) upper
   unfolding part IsField
-  upper-field e = (ap part e, λ f. has-bytes upper.1 (upper-whole e) (sym (ap (λ (x : Antenna). (part x).1) e) ∙ f))
+  upper-field e = (ap part e, λ f. has-bytes upper.1 (upper-whole e) (sym (ap (λ (x : Result (Option Antenna) Refusal). (part x).1) e) ∙ f))
 
-  lower-field : answer ≡ Lower → IsField (part answer) lower
+  lower-field : answer ≡ Ok (Some Lower) → IsField (part answer) lower
   unfolding part IsField
-  lower-field e = (ap part e, λ f. has-bytes lower.1 (lower-whole e) (sym (ap (λ (x : Antenna). (part x).1) e) ∙ f))
+  lower-field e = (ap part e, λ f. has-bytes lower.1 (lower-whole e) (sym (ap (λ (x : Result (Option Antenna) Refusal). (part x).1) e) ∙ f))
 
-  field-upper : Apart upper lower → (x : Antenna) → IsField (part x) upper → x ≡ Upper
+  field-upper : Apart upper lower → (x : Result (Option Antenna) Refusal) → IsField (part x) upper → x ≡ Ok (Some Upper)
   unfolding part IsField Apart
-  field-upper d Upper h = refl
-  field-upper d Lower h = absurd (d (sym h.0))
-  field-upper d Neither h = absurd (h.1 refl)
-  field-upper d (Refused n) h = absurd (h.1 refl)
+  field-upper d (Ok (Some Upper)) h = refl
+  field-upper d (Ok (Some Lower)) h = absurd (d (sym h.0))
+  field-upper d (Ok None) h = absurd (h.1 refl)
+  field-upper d (Err r) h = absurd (h.1 refl)
 
-  field-lower : Apart upper lower → (x : Antenna) → IsField (part x) lower → x ≡ Lower
+  field-lower : Apart upper lower → (x : Result (Option Antenna) Refusal) → IsField (part x) lower → x ≡ Ok (Some Lower)
   unfolding part IsField Apart
-  field-lower d Upper h = absurd (d h.0)
-  field-lower d Lower h = refl
-  field-lower d Neither h = absurd (h.1 refl)
-  field-lower d (Refused n) h = absurd (h.1 refl)
+  field-lower d (Ok (Some Upper)) h = absurd (d h.0)
+  field-lower d (Ok (Some Lower)) h = refl
+  field-lower d (Ok None) h = absurd (h.1 refl)
+  field-lower d (Err r) h = absurd (h.1 refl)
 
-  is-empty : (answer ≡ Neither) ⊎ ((n : ℕ) × (answer ≡ Refused n)) → part answer ≡ (upper.0, [])
+  is-empty : (answer ≡ Ok None) ⊎ ((r : Refusal) × (answer ≡ Err r)) → part answer ≡ (upper.0, [])
   unfolding part
   is-empty (inl e) = ap part e
-  is-empty (inr (n, e)) = ap part e
+  is-empty (inr (r, e)) = ap part e
 
-  no_bytes : (x : Antenna) → answer ≡ x → (part x).1 ≡ [] → (x ≡ Neither) ⊎ ((n : ℕ) × (x ≡ Refused n))
+  no_bytes : (x : Result (Option Antenna) Refusal) → answer ≡ x → (part x).1 ≡ [] → (x ≡ Ok None) ⊎ ((r : Refusal) × (x ≡ Err r))
   unfolding part
-  no_bytes Upper e f = absurd (has-bytes upper.1 (upper-whole e) f)
-  no_bytes Lower e f = absurd (has-bytes lower.1 (lower-whole e) f)
-  no_bytes Neither e f = inl refl
-  no_bytes (Refused n) e f = inr (n, refl)
+  no_bytes (Ok (Some Upper)) e f = absurd (has-bytes upper.1 (upper-whole e) f)
+  no_bytes (Ok (Some Lower)) e f = absurd (has-bytes lower.1 (lower-whole e) f)
+  no_bytes (Ok None) e f = inl refl
+  no_bytes (Err r) e f = inr (r, refl)
 
-  sizes : (x : Antenna) → answer ≡ x → ((part x).1 ≡ [] → ⊥) → (length (part x).1 ≡ 4) ⊎ (length (part x).1 ≡ 11)
+  sizes : (x : Result (Option Antenna) Refusal) → answer ≡ x → ((part x).1 ≡ [] → ⊥) → (length (part x).1 ≡ 4) ⊎ (length (part x).1 ≡ 11)
   unfolding part
-  sizes Upper e f = field_sizes upper.1 (upper-whole e)
-  sizes Lower e f = field_sizes lower.1 (lower-whole e)
-  sizes Neither e f = absurd (f refl)
-  sizes (Refused n) e f = absurd (f refl)
+  sizes (Ok (Some Upper)) e f = field_sizes upper.1 (upper-whole e)
+  sizes (Ok (Some Lower)) e f = field_sizes lower.1 (lower-whole e)
+  sizes (Ok None) e f = absurd (f refl)
+  sizes (Err r) e f = absurd (f refl)
 
 pub upper_part : UpperPart
 unfolding UpperPart returned answer part
@@ -386,7 +390,7 @@ burst_never_displaces own m n w d p q h hm hn em en b no-all-call no-broadcast =
     lost : Taken own hit → ⊥
     lost t = by (accepted own hit h t)
       where
-        by : (reception_outcome own hit ≡ said R.Own) ⊎ ((reception_outcome own hit ≡ said R.AllCall) ⊎ (reception_outcome own hit ≡ said R.Broadcast)) → ⊥
+        by : (reception_outcome own hit ≡ answered R.Own) ⊎ ((reception_outcome own hit ≡ answered R.AllCall) ⊎ (reception_outcome own hit ≡ answered R.Broadcast)) → ⊥
         by (inl e) = burst_never_own m own w d hm em b e
         by (inr (inl e)) = no-all-call e
         by (inr (inr e)) = no-broadcast e

@@ -24,14 +24,15 @@ use Rattle.notices.proofs.Laws.{ones_shl}
 use Rattle.division.specs.Polynomial.{polynomial, downwards, product}
 use Rattle.division.specs.Division.{generator, generator_powers, reduce, divide, quotient, remainder, parity, overlay, address_read, ReadsAs, Carries}
 use Rattle.encoder.specs.Seals.{word_bytes, with_parity, reply_parity, interrogation_parity, reply_seal, interrogation_seal, seal_outcome, reply_after, interrogation_after}
-use Rattle.transponder.specs.Receptions.{reception_of, is_reserved, Permitted, reception_outcome, said}
+use Rattle.transponder.specs.Receptions.{reception_of, is_reserved, Permitted, reception_outcome, answered}
 use Rattle.transponder.specs.declared.Reception.TheVariants.{Own, AllCall, Broadcast, NotOurs}
 use Rattle.sensor.specs.Changes.{OnLow, Fit, marks_at, low_marks}
 use Rattle.sensor.specs.Verdicts.{sole_mark, several_mark, clean_answer, dense_answer, no_fit_answer, corrected_answer, syndrome, decision_of, checked, sensor_outcome, sensor_after}
 use Rattle.mode_s.specs.Packing.{parts, packed}
 use Rattle.mode_s.specs.Packing.Source.{sensor}
-use Rattle.antennas.specs.Antennas.{antenna_of, Part}
-use Rattle.antennas.specs.declared.Antenna.TheVariants.{Upper, Lower, Neither, Refused}
+use Rattle.antennas.specs.Antennas.{antenna_of, Part, said as said_antenna}
+use Rattle.std.specs.Prelude.{Some, None, Ok}
+use Rattle.antennas.specs.declared.Antenna.TheVariants.{Upper, Lower}
 use Rattle.conformance.specs.Refusals.{row, Wrong, handed, outcome, Breaks, SomeBreaks, Applies}
 use Rattle.conformance.specs.Refusals.Call.{seal_reply}
 use Rattle.conformance.specs.Sealing.{Message, CarriesReply}
@@ -138,11 +139,11 @@ reads_as = (0, 0xFFE812, lit< tt, refl)
 
 -- ---- accepting: own of both lengths, all-call in format 11, not ours with FFFFFF in another format, and broadcast in format 21
 
-answers_met : (reception_outcome 0x000002 (0x00 ∷ 0x00 ∷ 0x00 ∷ 0x00 ∷ 0x00 ∷ 0x00 ∷ 0x03 ∷ []) ≡ said Own)
-    × (reception_outcome 0x4840D6 (0xA0 ∷ 0x00 ∷ 0x18 ∷ 0x38 ∷ 0xCA ∷ 0x3E ∷ 0x51 ∷ 0xF0 ∷ 0xA8 ∷ 0x00 ∷ 0x00 ∷ 0xD8 ∷ 0xBF ∷ 0xE3 ∷ []) ≡ said Own)
-    × (reception_outcome 0x000002 (interrogation_after (0x58 ∷ 0x00 ∷ 0x00 ∷ 0x00 ∷ 0x00 ∷ 0x00 ∷ 0x00 ∷ []) 0xFFFFFF) ≡ said AllCall)
-    × (reception_outcome 0x123456 (0x00 ∷ 0x00 ∷ 0x00 ∷ 0x00 ∷ 0xAA ∷ 0xAC ∷ 0x07 ∷ []) ≡ said (NotOurs 0xFFFFFF))
-    × (reception_outcome 0x000002 (interrogation_after long_unsealed 0xFFFFFF) ≡ said Broadcast)
+answers_met : (reception_outcome 0x000002 (0x00 ∷ 0x00 ∷ 0x00 ∷ 0x00 ∷ 0x00 ∷ 0x00 ∷ 0x03 ∷ []) ≡ answered Own)
+    × (reception_outcome 0x4840D6 (0xA0 ∷ 0x00 ∷ 0x18 ∷ 0x38 ∷ 0xCA ∷ 0x3E ∷ 0x51 ∷ 0xF0 ∷ 0xA8 ∷ 0x00 ∷ 0x00 ∷ 0xD8 ∷ 0xBF ∷ 0xE3 ∷ []) ≡ answered Own)
+    × (reception_outcome 0x000002 (interrogation_after (0x58 ∷ 0x00 ∷ 0x00 ∷ 0x00 ∷ 0x00 ∷ 0x00 ∷ 0x00 ∷ []) 0xFFFFFF) ≡ answered AllCall)
+    × (reception_outcome 0x123456 (0x00 ∷ 0x00 ∷ 0x00 ∷ 0x00 ∷ 0xAA ∷ 0xAC ∷ 0x07 ∷ []) ≡ answered (NotOurs 0xFFFFFF))
+    × (reception_outcome 0x000002 (interrogation_after long_unsealed 0xFFFFFF) ≡ answered Broadcast)
 unfolding long_unsealed polynomial downwards product generator generator_powers reduce divide quotient remainder parity overlay address_read number field format_number first_bit first_bit_agrees is_message_length is_word word_bytes with_parity interrogation_parity interrogation_seal seal_outcome interrogation_after reception_of is_reserved reception_outcome
 answers_met = (refl, refl, refl, refl, refl)
 
@@ -163,7 +164,7 @@ empty-bytes : Bytes empty
 unfolding empty
 empty-bytes = are_bytes_lem empty refl
 
-burst_met : reception_outcome 0x000002 (inverted (interrogation_after empty 0x000002) 1) ≡ said Own → ⊥
+burst_met : reception_outcome 0x000002 (inverted (interrogation_after empty 0x000002) 1) ≡ answered Own → ⊥
 unfolding BurstNeverOwn
 burst_met = burst_never_own empty 0x000002 32 1 empty-bytes interrogation_sealed burst
 
@@ -177,12 +178,12 @@ short_call : List ℕ
 short_call = 0x20 ∷ 0x00 ∷ 0x00 ∷ 0x00 ∷ 0x00 ∷ 0x00 ∷ 0x00 ∷ []
 
 burst_to_broadcast : Bytes long_call × (seal_outcome long_call 0x4840D6 ≡ done) × Burst (interrogation_after long_call 0x4840D6) 88 0xDAD1C3
-    × (reception_outcome 0x4840D6 (inverted (interrogation_after long_call 0x4840D6) 0xDAD1C3) ≡ said Broadcast)
+    × (reception_outcome 0x4840D6 (inverted (interrogation_after long_call 0x4840D6) 0xDAD1C3) ≡ answered Broadcast)
 unfolding long_call Burst polynomial downwards product generator generator_powers reduce divide quotient remainder parity overlay address_read number number_bytes inverted field format_number first_bit first_bit_agrees is_message_length is_word word_bytes with_parity interrogation_parity interrogation_seal seal_outcome interrogation_after reception_of is_reserved reception_outcome
 burst_to_broadcast = (are_bytes_lem long_call refl, refl, (lit≤ tt, 0xDAD1C3, lit< tt, lit< tt, refl), refl)
 
 burst_to_all-call : Bytes short_call × (seal_outcome short_call 0x510AF9 ≡ done) × Burst (interrogation_after short_call 0x510AF9) 0 (0x785631 * 2 ^ 32)
-    × (reception_outcome 0x510AF9 (inverted (interrogation_after short_call 0x510AF9) (0x785631 * 2 ^ 32)) ≡ said AllCall)
+    × (reception_outcome 0x510AF9 (inverted (interrogation_after short_call 0x510AF9) (0x785631 * 2 ^ 32)) ≡ answered AllCall)
 unfolding short_call Burst polynomial downwards product generator generator_powers reduce divide quotient remainder parity overlay address_read number number_bytes inverted field format_number first_bit first_bit_agrees is_message_length is_word word_bytes with_parity interrogation_parity interrogation_seal seal_outcome interrogation_after reception_of is_reserved reception_outcome
 burst_to_all-call = (are_bytes_lem short_call refl, refl, (lit≤ tt, 0x785631, lit< tt, lit< tt, refl), refl)
 
@@ -195,9 +196,9 @@ own_call = 0x00 ∷ 0x00 ∷ 0x00 ∷ 0x00 ∷ 0x00 ∷ 0x00 ∷ 0x03 ∷ []
 all-call : List ℕ
 all-call = interrogation_after (0x58 ∷ 0x00 ∷ 0x00 ∷ 0x00 ∷ 0x00 ∷ 0x00 ∷ 0x00 ∷ []) 0xFFFFFF
 
-antennas_met : (antenna_of 0x000002 own_call 5 all-call 6 ≡ Lower) × (antenna_of 0x000002 own_call 6 all-call 6 ≡ Upper)
-    × (antenna_of 0x000002 all-call 6 own_call 5 ≡ Upper) × (antenna_of 0x000002 [] 255 (0x80 ∷ 0x00 ∷ 0x00 ∷ 0x00 ∷ 0x00 ∷ 0x00 ∷ 0x03 ∷ []) 255 ≡ Neither)
-    × (antenna_of 0x1000000 own_call 5 all-call 6 ≡ Refused 3) × (antenna_of 0xFFFFFF own_call 5 all-call 6 ≡ Refused 6)
+antennas_met : (antenna_of 0x000002 own_call 5 all-call 6 ≡ Ok (Some Lower)) × (antenna_of 0x000002 own_call 6 all-call 6 ≡ Ok (Some Upper))
+    × (antenna_of 0x000002 all-call 6 own_call 5 ≡ Ok (Some Upper)) × (antenna_of 0x000002 [] 255 (0x80 ∷ 0x00 ∷ 0x00 ∷ 0x00 ∷ 0x00 ∷ 0x00 ∷ 0x03 ∷ []) 255 ≡ Ok None)
+    × (said_antenna (antenna_of 0x1000000 own_call 5 all-call 6) ≡ refusal 3) × (said_antenna (antenna_of 0xFFFFFF own_call 5 all-call 6) ≡ refusal 6)
 unfolding own_call all-call polynomial downwards product generator generator_powers reduce divide quotient remainder parity overlay address_read number field format_number first_bit first_bit_agrees is_message_length is_word word_bytes with_parity interrogation_parity interrogation_seal seal_outcome interrogation_after reception_of is_reserved reception_outcome antenna_of
 antennas_met = (refl, refl, refl, refl, refl, refl)
 
@@ -206,7 +207,7 @@ part_met : IsField (returned 0x000002 ((0, 0), own_call) 6 ((1, 0), all-call) 6)
 unfolding UpperPart
 part_met = (upper_part 0x000002 ((0, 0), own_call) 6 ((1, 0), all-call) 6).0 antennas_met.1
 
-answer_met : antenna_of 0x000002 own_call 6 all-call 6 ≡ Upper
+answer_met : antenna_of 0x000002 own_call 6 all-call 6 ≡ Ok (Some Upper)
 unfolding UpperPart Apart
 answer_met = (upper_part 0x000002 ((0, 0), own_call) 6 ((1, 0), all-call) 6).1 elsewhere part_met
   where
@@ -222,21 +223,21 @@ own_permitted = (
   (lit≤ tt, (λ e. omega arith), λ e. omega arith),
 )
 
-hit_not_ours : reception_outcome 0x000002 (inverted (interrogation_after empty 0x000002) 1) ≡ said (NotOurs 0x000003)
+hit_not_ours : reception_outcome 0x000002 (inverted (interrogation_after empty 0x000002) 1) ≡ answered (NotOurs 0x000003)
 unfolding empty polynomial downwards product generator generator_powers reduce divide quotient remainder parity overlay address_read number number_bytes inverted field format_number first_bit first_bit_agrees is_message_length is_word word_bytes with_parity interrogation_parity interrogation_seal seal_outcome interrogation_after reception_of is_reserved reception_outcome
 hit_not_ours = refl
 
 not_displaced : (p q : ℕ)
-    → (antenna_of 0x000002 (inverted (interrogation_after empty 0x000002) 1) p (interrogation_after empty 0x000002) q ≡ Lower)
-    × (antenna_of 0x000002 (interrogation_after empty 0x000002) p (inverted (interrogation_after empty 0x000002) 1) q ≡ Upper)
+    → (antenna_of 0x000002 (inverted (interrogation_after empty 0x000002) 1) p (interrogation_after empty 0x000002) q ≡ Ok (Some Lower))
+    × (antenna_of 0x000002 (interrogation_after empty 0x000002) p (inverted (interrogation_after empty 0x000002) 1) q ≡ Ok (Some Upper))
 unfolding BurstNeverDisplaces
 not_displaced p q =
     burst_never_displaces 0x000002 empty empty 32 1 p q own_permitted.0 empty-bytes empty-bytes interrogation_sealed interrogation_sealed burst
     (λ e. omega (arith, same_answer (sym hit_not_ours ∙ e))) (λ e. omega (arith, same_answer (sym hit_not_ours ∙ e)))
 
 -- the exception: the bursts above made a broadcast and an all-call, which at a higher level displace the undamaged one
-displaced : (antenna_of 0x4840D6 (inverted (interrogation_after long_call 0x4840D6) 0xDAD1C3) 9 (interrogation_after long_call 0x4840D6) 3 ≡ Upper)
-    × (antenna_of 0x510AF9 (interrogation_after short_call 0x510AF9) 3 (inverted (interrogation_after short_call 0x510AF9) (0x785631 * 2 ^ 32)) 9 ≡ Lower)
+displaced : (antenna_of 0x4840D6 (inverted (interrogation_after long_call 0x4840D6) 0xDAD1C3) 9 (interrogation_after long_call 0x4840D6) 3 ≡ Ok (Some Upper))
+    × (antenna_of 0x510AF9 (interrogation_after short_call 0x510AF9) 3 (inverted (interrogation_after short_call 0x510AF9) (0x785631 * 2 ^ 32)) 9 ≡ Ok (Some Lower))
 unfolding SaysUpper SaysLower TakenIsAccepted
 displaced = (
   (says_upper 0x4840D6 _ 9 _ 3).1 (own_permitted.1, (taken_is_accepted 0x4840D6 _ own_permitted.1).1 (inr (inr burst_to_broadcast.3)), λ t. lit≤ tt),

@@ -22,7 +22,7 @@ use Rattle.division.specs.Division.{generator, quotient, remainder, parity, over
 use Rattle.division.proofs.Laws.{xor_cancel, remainder-xor, division_equation, multiple, product_lt, quotient-lt, remainder_by_address, overlay-lt}
 use Rattle.encoder.specs.Seals.{seal_outcome, reply_after, interrogation_after, with_parity}
 use Rattle.encoder.proofs.Laws.{was_accepted, reply-after, interrogation_after_lem, reply_is, interrogation_is, reply-lt, sealed-length, sealed-bytes, remainder_sealed}
-use Rattle.transponder.specs.Receptions.{reception_outcome, said}
+use Rattle.transponder.specs.Receptions.{reception_outcome, answered}
 use Rattle.transponder.specs.declared.Reception.TheVariants.{Own}
 use Rattle.sensor.specs.Verdicts.{clean_answer, sensor_outcome}
 use Rattle.notices.proofs.Laws.{even_of_zero, two_noticed, five_noticed, seven_noticed, two_of_eight, two_of_twelve}
@@ -82,7 +82,7 @@ clean_zero m c w l d hm hc e h o =
     ((says_clean (inverted (reply_after m w) d) c w l (inverted-bytes (reply_after m w) d, hc, λ n r. refusal_is_no_answer (sym r ∙ o))).0 o)
 
 own_zero : (m : List ℕ) (a d : ℕ) → Bytes m → seal_outcome m a ≡ done → d < 2 ^ bits m
-    → reception_outcome a (inverted (interrogation_after m a) d) ≡ said Own → remainder d ≡ 0
+    → reception_outcome a (inverted (interrogation_after m a) d) ≡ answered Own → remainder d ≡ 0
 own_zero m a d hm e h o =
     passed-zero m (interrogation_after m a) (overlay a) d (sealed_interrogation m a hm e) h
     (remainder_by_address (number (inverted (interrogation_after m a) d)) ∙ ap overlay (own_read a (inverted (interrogation_after m a) d) o))

@@ -14,7 +14,7 @@ use Rattle.message.specs.Bits.{inverted}
 use Rattle.division.specs.Polynomial.{polynomial, downwards, product}
 use Rattle.division.specs.Division.{generator, generator_powers, reduce, divide, remainder, Carries}
 use Rattle.encoder.specs.Seals.{seal_outcome, reply_after, interrogation_after}
-use Rattle.transponder.specs.Receptions.{reception_outcome, said}
+use Rattle.transponder.specs.Receptions.{reception_outcome, answered}
 use Rattle.transponder.specs.declared.Reception.TheVariants.{Own}
 use Rattle.sensor.specs.Verdicts.{clean_answer, sensor_outcome}
 use Rattle.conformance.specs.Noticing.{ByTwos, Exactly, UpTo, TwoBursts, OddNeverClean, OddNeverOwn, TwoNeverClean, TwoNeverOwn, FewNeverClean, FewNeverOwn, TwoBurstsNeverClean, TwoBurstsNeverOwn}
@@ -54,7 +54,7 @@ NotClean : ℕ → Type 0
 NotClean d = sensor_outcome (inverted (reply_after short 0x123456) d) short 0x123456 24 ≡ clean_answer → ⊥
 
 NotOwn : ℕ → Type 0
-NotOwn d = reception_outcome 0x123456 (inverted (interrogation_after short 0x123456) d) ≡ said Own → ⊥
+NotOwn d = reception_outcome 0x123456 (inverted (interrogation_after short 0x123456) d) ≡ answered Own → ⊥
 
 -- ---- one bit, the last
 

@@ -16,7 +16,7 @@ use Rattle.message.specs.Bits.{place, last_window, InWindow}
 use Rattle.notices.proofs.Laws.{ones_shl, ones_zero}
 use Rattle.encoder.specs.Seals.{seal_outcome}
 use Rattle.encoder.proofs.Laws.{answered-done}
-use Rattle.transponder.specs.Receptions.{reception_outcome, said}
+use Rattle.transponder.specs.Receptions.{reception_outcome, answered}
 use Rattle.transponder.specs.declared.Reception.{Reception}
 use Rattle.transponder.specs.declared.Reception.TheVariants as R
 use Rattle.sensor.specs.Changes.{Fit}
@@ -78,13 +78,12 @@ seal_possible m w = by (split (seal_outcome m w))
     by (inr (n, vs, e)) = subst (Possible seal) (sym (answered-done m w n vs e)) sealed
 
 -- the answer that is due
-due_possible : (a : ℕ) (m : List ℕ) (r : Reception) → Due a m r → Possible transponder (said r)
+due_possible : (a : ℕ) (m : List ℕ) (r : Reception) → Due a m r → Possible transponder (answered r)
 unfolding Due
 due_possible a m R.Own d = own
 due_possible a m R.AllCall d = all_call
 due_possible a m R.Broadcast d = broadcast
 due_possible a m (R.NotOurs b) d = not_ours b d.0
-due_possible a m (R.Refused n) d = absurd d
 
 reception_possible : (a : ℕ) (m : List ℕ) → Possible transponder (reception_outcome a m)
 unfolding FirstSix outcome handed row OursIsDue

@@ -17,20 +17,21 @@ use Rattle.message.specs.Message.{number, bit_of, format_number, is_message_leng
 use Rattle.division.specs.Division.{shift_in, backward, overlay, parity, remainder, address_read}
 use Rattle.division.specs.Answers.{register_answer, backward_answer, overlay_answer, parity_answer, remainder_answer, address_answer}
 use Rattle.encoder.specs.Seals.{seal_outcome, reply_seal, reply_after, interrogation_seal, interrogation_after}
-use Rattle.transponder.specs.Receptions.{reception_of, is_reserved, reception_outcome, said}
+use Rattle.transponder.specs.Receptions.{reception_of, is_reserved, reception_outcome, answered}
 use Rattle.transponder.specs.declared.Reception.{Reception}
-use Rattle.transponder.specs.declared.Reception.TheVariants.{Own, AllCall, Broadcast, NotOurs, Refused}
+use Rattle.transponder.specs.declared.Reception.TheVariants.{Own, AllCall, Broadcast, NotOurs}
 use Rattle.transponder.proofs.Laws.{Case, case}
 use Rattle.sensor.specs.Verdicts.{syndrome, Decision, decision_of, decision_answer, checked, sensor_outcome}
 use Rattle.sensor.specs.Verdicts.Decision.{clean, dense, no_fit, corrected}
 use Rattle.sensor.proofs.Laws.{after-refused}
 use Rattle.altitude.specs.Fields.{has_altitude}
-use Rattle.altitude.specs.Answers.{said_altitude, said_writing, reading_of, reading_outcome, writing_outcome}
+use Rattle.altitude.specs.Answers.{said_field, said_written, reading_of, reading_outcome, writing_outcome}
 use Rattle.altitude.specs.declared.Writing.TheVariants.{Written, NoSuchField}
 use Rattle.altitude.proofs.Laws.{reading_final, left-refused}
-use Rattle.antennas.specs.Antennas.{is_taken, choice_of, said as said_antenna}
+use Rattle.antennas.specs.Antennas.{is_taken, choice_of, answered as answered_antenna}
 use Rattle.antennas.specs.declared.Antenna.{Antenna}
-use Rattle.antennas.specs.declared.Antenna.TheVariants.{Upper, Lower, Neither, Refused as AntennaRefused}
+use Rattle.antennas.specs.declared.Antenna.TheVariants.{Upper, Lower}
+use Rattle.std.specs.Prelude.{Option, Some, None}
 use Rattle.antennas.proofs.Laws.{Case as AntennaCase, case as antenna-case, said-by-tests}
 use Rattle.rollcall_table.specs.declared.Record.{Record}
 use Rattle.rollcall_table.specs.Table.{record_at, holder, is_in}
@@ -135,16 +136,16 @@ final (message_remainder m) = value (remainder (number m))
 final (read_address m) = value (address_read (number m))
 final (seal_reply m w) = done
 final (seal_interrogation m a) = done
-final (receive own m) = said (reception_of own (address_read (number m)) (format_number m))
+final (receive own m) = answered (reception_of own (address_read (number m)) (format_number m))
 final (correct m c w l) = decision_answer m (syndrome m w) (decision_of m c w l)
-final (read_altitude m) = said_altitude (reading_of m)
-final (write_altitude m z s) = said_writing (cond (has_altitude m) Written NoSuchField)
-final (taken_antenna own u p l q) = said_antenna (choice_of own u p l q)
+final (read_altitude m) = said_field (reading_of m)
+final (write_altitude m z s) = said_written (cond (has_altitude m) Written NoSuchField)
+final (taken_antenna own u p l q) = answered_antenna (choice_of own u p l q)
 final (clear_table rs ps n) = done
 final (add_or_renew rs ps n s) = cond (is_in rs s.address) (cond (stands rs s) renewed held) added
 final (remove_record rs ps n a) = cond (is_in rs a) (answer 3 []) absent
 final (find_record rs ps n a) = cond (is_in rs a) (found (record_at rs (holder rs a))) absent
-final (receive_segment own m r s) = with_progress (said (reception_of own (address_read (number m)) (format_number m))) (progress_of (receiver_after own m r))
+final (receive_segment own m r s) = with_progress (answered (reception_of own (address_read (number m)) (format_number m))) (progress_of (receiver_after own m r))
 final (send_opening a d b) = value (length (last_numbers (segment_count (length d))))
 final (send_round a d k s b) = value (length (round_numbers k (segment_count (length d)) s))
 final (send_exchange a d b) = value (length (last_numbers (segment_count (length d))))
@@ -152,15 +153,14 @@ final (divide_replies s w) = done
 
 -- the transponder's four rows before the answer of another call
 four-rows : (own a f : ℕ) (r : Reception) → Case own a f r → (o : Outcome) (s t u v : Bool)
-    → unless s 1 (unless t 3 (unless u 5 (unless v 6 o))) ≡ onward (unless s 1 (unless t 3 (unless u 5 (unless v 6 (said r))))) o
+    → unless s 1 (unless t 3 (unless u 5 (unless v 6 o))) ≡ onward (unless s 1 (unless t 3 (unless u 5 (unless v 6 (answered r))))) o
 four-rows own a f r h o true true true true = by r h
   where
-    by : (r : Reception) → Case own a f r → o ≡ onward (said r) o
+    by : (r : Reception) → Case own a f r → o ≡ onward (answered r) o
     by Own h = refl
     by AllCall h = refl
     by Broadcast h = refl
     by (NotOurs b) h = refl
-    by (Refused n) h = absurd h
 four-rows own a f r h o true true true false = refl
 four-rows own a f r h o true true false v = refl
 four-rows own a f r h o true false u v = refl
@@ -219,19 +219,17 @@ in_order_lem (send_round a d k s b) = (lit≤ tt, (lit≤ tt, (lit≤ tt, (lit�
 in_order_lem (send_exchange a d b) = (lit≤ tt, (lit≤ tt, (lit≤ tt, tt)))
 in_order_lem (divide_replies s w) = (lit≤ tt, tt)
 
-reception_final : (own a f : ℕ) (r : Reception) → Case own a f r → Unrefused (said r)
+reception_final : (own a f : ℕ) (r : Reception) → Case own a f r → Unrefused (answered r)
 reception_final own a f Own h n e = refusal_is_no_answer (sym e)
 reception_final own a f AllCall h n e = refusal_is_no_answer (sym e)
 reception_final own a f Broadcast h n e = refusal_is_no_answer (sym e)
 reception_final own a f (NotOurs b) h n e = refusal_is_no_answer (sym e)
-reception_final own a f (Refused k) h n e = h
 
-segment_final : (own a f : ℕ) (r : Reception) (p : Progress) → Case own a f r → Unrefused (with_progress (said r) p)
+segment_final : (own a f : ℕ) (r : Reception) (p : Progress) → Case own a f r → Unrefused (with_progress (answered r) p)
 segment_final own a f Own p h n e = refusal_is_no_answer (sym e)
 segment_final own a f AllCall p h n e = refusal_is_no_answer (sym e)
 segment_final own a f Broadcast p h n e = refusal_is_no_answer (sym e)
 segment_final own a f (NotOurs b) p h n e = refusal_is_no_answer (sym e)
-segment_final own a f (Refused k) p h n e = h
 
 pub decision_final : (m : List ℕ) (s : ℕ) (d : Decision) → Unrefused (decision_answer m s d)
 decision_final m s clean n e = refusal_is_no_answer (sym e)
@@ -239,15 +237,14 @@ decision_final m s (dense k) n e = refusal_is_no_answer (sym e)
 decision_final m s no_fit n e = refusal_is_no_answer (sym e)
 decision_final m s (corrected k o) n e = refusal_is_no_answer (sym e)
 
-writing_final : (t : Bool) → Unrefused (said_writing (cond t Written NoSuchField))
+writing_final : (t : Bool) → Unrefused (said_written (cond t Written NoSuchField))
 writing_final true n e = refusal_is_no_answer (sym e)
 writing_final false n e = refusal_is_no_answer (sym e)
 
-antenna_final : (s : Bool) (p : ℕ) (t : Bool) (q : ℕ) (x : Antenna) → AntennaCase s p t q x → Unrefused (said_antenna x)
-antenna_final s p t q Upper h n e = refusal_is_no_answer (sym e)
-antenna_final s p t q Lower h n e = refusal_is_no_answer (sym e)
-antenna_final s p t q Neither h n e = refusal_is_no_answer (sym e)
-antenna_final s p t q (AntennaRefused k) h n e = h
+antenna_final : (s : Bool) (p : ℕ) (t : Bool) (q : ℕ) (x : Option Antenna) → AntennaCase s p t q x → Unrefused (answered_antenna x)
+antenna_final s p t q (Some Upper) h n e = refusal_is_no_answer (sym e)
+antenna_final s p t q (Some Lower) h n e = refusal_is_no_answer (sym e)
+antenna_final s p t q None h n e = refusal_is_no_answer (sym e)
 
 -- one of two answers is no refusal
 either_final : (t : Bool) (j k : ℕ) (us vs : List ℕ) → Unrefused (cond t (answer j us) (answer k vs))

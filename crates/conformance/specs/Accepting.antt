@@ -5,9 +5,9 @@ use Rattle.message.specs.Message.{number, Bytes, format_number}
 use Rattle.message.specs.Bits.{inverted}
 use Rattle.division.specs.Division.{ReadsAs}
 use Rattle.encoder.specs.Seals.{seal_outcome, interrogation_after}
-use Rattle.transponder.specs.Receptions.{reception_outcome, said}
+use Rattle.transponder.specs.Receptions.{reception_outcome, answered}
 use Rattle.transponder.specs.declared.Reception.{Reception}
-use Rattle.transponder.specs.declared.Reception.TheVariants.{Own, AllCall, Broadcast, NotOurs, Refused}
+use Rattle.transponder.specs.declared.Reception.TheVariants.{Own, AllCall, Broadcast, NotOurs}
 use Rattle.conformance.specs.Bursts.{Burst}
 
 -- The condition under which an answer is due, where the address read from U is the A of x^24·U = (x^24·h + A)·G + r with r
@@ -20,18 +20,17 @@ Due own m Broadcast = ReadsAs (number m) 0xFFFFFF × ((format_number m ≡ 20) �
 Due own m (NotOurs a) =
     (a < 2 ^ 24) × ReadsAs (number m) a × (a ≡ own → ⊥)
     × (a ≡ 0xFFFFFF → (format_number m ≡ 11 → ⊥) × (format_number m ≡ 20 → ⊥) × (format_number m ≡ 21 → ⊥))
-Due own m (Refused n) = ⊥
 
 -- Of a call that no row refuses, ours is due, and only ours is due.
 unfoldable pub OursIsDue : Type 0
 OursIsDue =
     (own : ℕ) (m : List ℕ) → Unrefused (reception_outcome own m)
-    → (r : Reception) × (reception_outcome own m ≡ said r) × Due own m r
+    → (r : Reception) × (reception_outcome own m ≡ answered r) × Due own m r
 
 unfoldable pub OnlyOneIsDue : Type 0
 OnlyOneIsDue =
     (own : ℕ) (m : List ℕ) → Unrefused (reception_outcome own m)
-    → (r : Reception) → Due own m r → reception_outcome own m ≡ said r
+    → (r : Reception) → Due own m r → reception_outcome own m ≡ answered r
 
 -- So exactly one is due: the four conditions exclude each other, and every interrogation that no row refuses meets one.
 unfoldable pub ExactlyOneIsDue : Type 0
@@ -43,27 +42,27 @@ ExactlyOneIsDue =
 unfoldable pub SaysOwn : Type 0
 SaysOwn =
     (own : ℕ) (m : List ℕ) → Unrefused (reception_outcome own m)
-    → (reception_outcome own m ≡ said Own) ↔ ReadsAs (number m) own
+    → (reception_outcome own m ≡ answered Own) ↔ ReadsAs (number m) own
 
 -- 'all-call: it is FFFFFF and the format number is 11'
 unfoldable pub SaysAllCall : Type 0
 SaysAllCall =
     (own : ℕ) (m : List ℕ) → Unrefused (reception_outcome own m)
-    → (reception_outcome own m ≡ said AllCall) ↔ (ReadsAs (number m) 0xFFFFFF × (format_number m ≡ 11))
+    → (reception_outcome own m ≡ answered AllCall) ↔ (ReadsAs (number m) 0xFFFFFF × (format_number m ≡ 11))
 
 -- 'Sites now send broadcast data in uplink formats 20 and 21 with address FFFFFF. The transponder must answer 'broadcast'
 -- there'
 unfoldable pub SaysBroadcast : Type 0
 SaysBroadcast =
     (own : ℕ) (m : List ℕ) → Unrefused (reception_outcome own m)
-    → (reception_outcome own m ≡ said Broadcast)
+    → (reception_outcome own m ≡ answered Broadcast)
     ↔ (ReadsAs (number m) 0xFFFFFF × ((format_number m ≡ 20) ⊎ (format_number m ≡ 21)))
 
 -- 'not ours, with the address read: everything else'; 'FFFFFF in formats other than 11, 20 and 21 remains 'not ours''
 unfoldable pub SaysNotOurs : Type 0
 SaysNotOurs =
     (own : ℕ) (m : List ℕ) (a : ℕ) → Unrefused (reception_outcome own m)
-    → (reception_outcome own m ≡ said (NotOurs a))
+    → (reception_outcome own m ≡ answered (NotOurs a))
     ↔ ((a < 2 ^ 24) × ReadsAs (number m) a × (a ≡ own → ⊥)
     × (a ≡ 0xFFFFFF → (format_number m ≡ 11 → ⊥) × (format_number m ≡ 20 → ⊥) × (format_number m ≡ 21 → ⊥)))
 
@@ -73,4 +72,4 @@ SaysNotOurs =
 unfoldable pub BurstNeverOwn : Type 0
 BurstNeverOwn =
     (m : List ℕ) (a w d : ℕ) → Bytes m → seal_outcome m a ≡ done → Burst (interrogation_after m a) w d
-    → reception_outcome a (inverted (interrogation_after m a) d) ≡ said Own → ⊥
+    → reception_outcome a (inverted (interrogation_after m a) d) ≡ answered Own → ⊥

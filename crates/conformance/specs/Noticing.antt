@@ -9,7 +9,7 @@ use Rattle.message.specs.Bits.{bits, inverted}
 use Rattle.division.specs.Polynomial.{product}
 use Rattle.division.specs.Division.{generator, Carries}
 use Rattle.encoder.specs.Seals.{seal_outcome, reply_after, interrogation_after}
-use Rattle.transponder.specs.Receptions.{reception_outcome, said}
+use Rattle.transponder.specs.Receptions.{reception_outcome, answered}
 use Rattle.transponder.specs.declared.Reception.TheVariants.{Own}
 use Rattle.sensor.specs.Verdicts.{clean_answer, sensor_outcome}
 
@@ -50,7 +50,7 @@ NeverClean Change =
 abbrev pub NeverOwn : (List ℕ → ℕ → Type 0) → Type 0
 NeverOwn Change =
     (m : List ℕ) (a d : ℕ) → Bytes m → seal_outcome m a ≡ done → d < 2 ^ bits m → Change m d
-    → reception_outcome a (inverted (interrogation_after m a) d) ≡ said Own → ⊥
+    → reception_outcome a (inverted (interrogation_after m a) d) ≡ answered Own → ⊥
 
 -- ---- the statements
 

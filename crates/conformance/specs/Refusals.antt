@@ -11,7 +11,7 @@ use Rattle.outcome.specs.Refusals.{wrong_length, wrong_confidence_length, word_t
 use Rattle.message.specs.Message.{first_bit}
 use Rattle.division.specs.Answers.{register_answer, backward_answer, overlay_answer, parity_answer, remainder_answer, address_answer}
 use Rattle.encoder.specs.Seals.{seal_outcome, reply_after, interrogation_after}
-use Rattle.transponder.specs.Receptions.{reception_outcome, said}
+use Rattle.transponder.specs.Receptions.{reception_outcome, answered}
 use Rattle.transponder.specs.declared.Reception.TheVariants.{Own}
 use Rattle.sensor.specs.Verdicts.{sensor_outcome, sensor_after}
 use Rattle.altitude_code.specs.Altitudes.{lowest, highest}
@@ -96,10 +96,10 @@ Wrong (lengths rs ps) = (length rs ≡ length ps → ⊥) ⊎ ((length rs < 1) �
 Wrong (table rs ps n) = Sound rs ps n → ⊥
 Wrong (entering rs a) = ((i : ℕ) → holds (record_at rs i) a ≡ true → ⊥) × ((i : ℕ) → i < length rs → (record_at rs i).live ≡ true)
 Wrong (opening own m r) =
-    (reception_outcome own m ≡ said Own) × (is_extended m ≡ true)
+    (reception_outcome own m ≡ answered Own) × (is_extended m ≡ true)
     × ((((reply_control m ≡ 1) ⊎ (reply_control m ≡ 2)) × (r.opened ≡ false)) ⊎ ((reply_control m ≡ 0) × (segment_number m ≡ 0)))
 Wrong (numbered own m r) =
-    (reception_outcome own m ≡ said Own) × (is_extended m ≡ true)
+    (reception_outcome own m ≡ answered Own) × (is_extended m ≡ true)
     × (((reply_control m ≡ 1) ⊎ (reply_control m ≡ 2)) × (r.opened ≡ true) × (r.last < segment_number m))
 Wrong (segmented d) = (n : ℕ) → 2 ≤ n → n ≤ 16 → length d ≡ n * 10 → ⊥
 Wrong (round_size s) = (s < 1) ⊎ (16 < s)

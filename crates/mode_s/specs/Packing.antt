@@ -7,7 +7,7 @@
 use Rattle.std.specs.Prelude.{ℕ, ◌+◌, ◌*◌, ◌/◌, ◌%◌, ◌^◌, ◌<◌, ◌≤◌, ◌≡◌, ◌⊎◌, cond, List, [], ◌∷◌, eqb, get_or}
 use Rattle.outcome.specs.Outcomes.{Outcome, done}
 use Rattle.outcome.specs.Outcomes.Outcome.{refusal, answer}
-use Rattle.transponder.specs.Receptions.{said}
+use Rattle.transponder.specs.Receptions.{answered}
 use Rattle.transponder.specs.declared.Reception.TheVariants.{Own, AllCall, Broadcast, NotOurs}
 use Rattle.sensor.specs.Verdicts.{sole_mark, several_mark, clean_answer, dense_answer, no_fit_answer, corrected_answer}
 
@@ -110,10 +110,10 @@ unpacked x = answer_by (number_in x) (refusal_in x) (mark_in x) (window_in x) (b
 pub data Possible : Source → Outcome → Type 0 where
   refused_by : (s : Source) (n : ℕ) → 1 ≤ n → n ≤ 6 → Possible s (refusal n)
   sealed : Possible seal done
-  own : Possible transponder (said Own)
-  all_call : Possible transponder (said AllCall)
-  broadcast : Possible transponder (said Broadcast)
-  not_ours : (a : ℕ) → a < 2 ^ 24 → Possible transponder (said (NotOurs a))
+  own : Possible transponder (answered Own)
+  all_call : Possible transponder (answered AllCall)
+  broadcast : Possible transponder (answered Broadcast)
+  not_ours : (a : ℕ) → a < 2 ^ 24 → Possible transponder (answered (NotOurs a))
   clean : Possible sensor clean_answer
   dense : (w : ℕ) → w ≤ 88 → Possible sensor (dense_answer w)
   no_fit : Possible sensor no_fit_answer

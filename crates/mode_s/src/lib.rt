@@ -7,6 +7,7 @@
 #![tactic(auto)]
 
 ghost use Rattle.std.specs.Prelude.{◌≡◌, length};
+ghost use Rattle.outcome.specs.Refusals.{number_of};
 ghost use Rattle.encoder.specs.Seals.{seal_outcome, reply_after, interrogation_after};
 ghost use Rattle.encoder.specs.Seals.{said as said_seal};
 ghost use Rattle.transponder.specs.Receptions.{reception_outcome};
@@ -18,8 +19,7 @@ ghost use Rattle.remainders.specs.Recording.{said as said_divided};
 ghost use Rattle.mode_s.specs.Packing.{parts, packed};
 ghost use Rattle.mode_s.specs.Packing.Source.{seal, transponder, sensor, recording};
 
-use encoder::Seal;
-use remainders::Divided;
+use outcome::Refusal;
 use sensor::{Correction, Mark, Verdict};
 use transponder::Reception;
 
@@ -62,55 +62,68 @@ pub fn mode_s_remainders(replies: &[u8], remainders: &mut [u32]) -> u64
     packed_divided(remainders::remainders(replies, remainders))
 }
 
-fn packed_seal(s: Seal) -> u64
+// The number of an answer is one for all calls: C tells by it whose answer it is.
+#[tactic(auto, unfolding(crate::specs::Packing::packed))]
+fn packed_seal(s: Result<(), Refusal>) -> u64
     ensures { result ≡ packed seal (said_seal s) }
 {
     match s {
-        Seal::Sealed => parts(2, 0, 0, 0, 0, 0),
-        Seal::Refused(n) => parts(1, n, 0, 0, 0, 0),
+        Ok(()) => parts(2, 0, 0, 0, 0, 0),
+        Err(r) => refused(r),
     }
 }
 
-fn packed_reception(s: Reception) -> u64
+// Every call refuses alike.
+fn refused(r: Refusal) -> u64
+    ensures { result ≡ parts 1 (number_of r) 0 0 0 0 }
+{
+    parts(1, u32::from(r), 0, 0, 0, 0)
+}
+
+#[tactic(auto, unfolding(crate::specs::Packing::packed))]
+fn packed_reception(s: Result<Reception, Refusal>) -> u64
     ensures { result ≡ packed transponder (said_reception s) }
 {
     match s {
-        Reception::Own => parts(3, 0, 0, 0, 0, 0),
-        Reception::AllCall => parts(4, 0, 0, 0, 0, 0),
-        Reception::NotOurs(a) => parts(5, 0, 0, 0, 0, a),
-        Reception::Broadcast => parts(6, 0, 0, 0, 0, 0),
-        Reception::Refused(n) => parts(1, n, 0, 0, 0, 0),
+        Ok(Reception::Own) => parts(3, 0, 0, 0, 0, 0),
+        Ok(Reception::AllCall) => parts(4, 0, 0, 0, 0, 0),
+        Ok(Reception::NotOurs(a)) => parts(5, 0, 0, 0, 0, a),
+        Ok(Reception::Broadcast) => parts(6, 0, 0, 0, 0, 0),
+        Err(r) => refused(r),
     }
 }
 
-fn packed_verdict(s: Verdict) -> u64
+#[tactic(auto, unfolding(crate::specs::Packing::packed))]
+fn packed_verdict(s: Result<Verdict, Refusal>) -> u64
     ensures { result ≡ packed sensor (said_verdict s) }
 {
     match s {
-        Verdict::Clean => parts(7, 0, 0, 0, 0, 0),
-        Verdict::Dense(w) => parts(8, 0, 0, w, 0, 0),
-        Verdict::NoFit => parts(9, 0, 0, 0, 0, 0),
-        Verdict::Corrected(k) => packed_correction(k),
-        Verdict::Refused(n) => parts(1, n, 0, 0, 0, 0),
+        Ok(Verdict::Clean) => parts(7, 0, 0, 0, 0, 0),
+        Ok(Verdict::Dense(w)) => parts(8, 0, 0, w, 0, 0),
+        Ok(Verdict::NoFit) => parts(9, 0, 0, 0, 0, 0),
+        Ok(Verdict::Corrected(k)) => packed_correction(k),
+        Err(r) => refused(r),
     }
 }
 
-fn packed_divided(s: Divided) -> u64
+// Apart from packed_seal by its number, which is all that C has to tell the two by.
+#[tactic(auto, unfolding(crate::specs::Packing::packed))]
+fn packed_divided(s: Result<(), Refusal>) -> u64
     ensures { result ≡ packed recording (said_divided s) }
 {
     match s {
-        Divided::All => parts(11, 0, 0, 0, 0, 0),
-        Divided::Refused(n) => parts(1, n, 0, 0, 0, 0),
+        Ok(()) => parts(11, 0, 0, 0, 0, 0),
+        Err(r) => refused(r),
     }
 }
 
 fn packed_correction(k: Correction) -> u64
     ensures { result ≡ parts 10 0 (mark_of k.mark) k.window k.bits 0 }
 {
-    let mark = k.mark;
-    parts(10, 0, mark_number(mark), k.window, k.bits, 0)
+    parts(10, 0, mark_number(k.mark), k.window, k.bits, 0)
 }
 
+// C reads a number.
 fn mark_number(mark: Mark) -> u32
     ensures { result ≡ mark_of mark }
 {
@@ -121,14 +134,15 @@ fn mark_number(mark: Mark) -> u32
 }
 
 // The six parts, each in its own bits.
+#[tactic(auto, unfolding(crate::specs::Packing::parts))]
 fn parts(number: u32, refused: u32, mark: u32, window: u32, bits: u32, address: u32) -> u64
     ensures { result ≡ parts number refused mark window bits address }
 {
-    let n = (number % 256) as u64;
-    let f = (refused % 256) as u64;
-    let m = (mark % 256) as u64;
-    let w = (window % 256) as u64;
-    let b = (bits % 256) as u64;
-    let a = (address % 16777216) as u64;
+    let n = u64::from(number % 256);
+    let f = u64::from(refused % 256);
+    let m = u64::from(mark % 256);
+    let w = u64::from(window % 256);
+    let b = u64::from(bits % 256);
+    let a = u64::from(address % 16777216);
     n + f * 256 + m * 65536 + w * 16777216 + b * 4294967296 + a * 1099511627776
 }

@@ -2,39 +2,28 @@
 -- table further.
 use mathlib.Core.Path.{◌≡◌, sym, ap, ap₂, ◌∙◌, subst}
 use mathlib.Core.Logic.{◌⊎◌, inl, inr}
-use mathlib.Core.List.{List}
+use mathlib.Core.List.{List, ◌++◌}
 use Prim.Native.Nat.{ℕ, ◌+◌, ◌*◌, ◌-◌, ◌/◌, ◌%◌, ◌^◌, ◌<◌, ◌≤◌}
-use native.Mathlib.Nat.{mul-one, eq-or-lt_of_le, not-suc-le-zero}
+use native.Mathlib.Nat.{mul-one, eq-or-lt_of_le}
 use native.Mathlib.Omega.{arith}
-use lib.ListN.{length, get_or, set}
-use lib.Seq.{get_or-set_same, get_or-set_other}
+use lib.ListN.{length, get_or, set, take}
+use lib.Seq.{get_or-set_same, get_or-set_other, length-take-le}
+use Rattle.std.proofs.lemmas.List.{get_or-append_right, get_or_append_left}
+use Rattle.division.specs.Tables.{IsByteTable}
 use lib.Bits.{bit_xor}
 use Rattle.division.specs.Division.{parity}
-use Rattle.division.proofs.Laws.{shl-shl, parity-lt, parity_byte_on}
+use Rattle.division.proofs.Laws.{shl-shl, parity-lt, parity_byte_on, byte_table_rule}
 use Rattle.remainders.specs.Entries.{entry_at, AreTables, HasLast}
 
--- ---- the last table, entry by entry
+-- ---- the last table, written as a whole
 
-unfoldable pub Written : ℕ → List ℕ → Type 0
-Written n t = (k : ℕ) → k < n → get_or t (k + 2560) 0 ≡ entry_at 0 k
-
-pub written_none : (t : List ℕ) → Written 0 t
-unfolding Written
-written_none t k h = absurd (not-suc-le-zero h)
-
-pub written_next : (t : List ℕ) (n v : ℕ) → length t ≡ 2816 → n < 256 → v ≡ parity n → Written n t → Written (n + 1) (set t (n + 2560) v)
-unfolding Written entry_at
-written_next t n v l hn e w k h = by (eq-or-lt_of_le (omega arith))
-  where
-    by : (k ≡ n) ⊎ (k < n) → get_or (set t (n + 2560) v) (k + 2560) 0 ≡ parity (k * 1)
-    by (inl same) =
-        ap (λ (j : ℕ). get_or (set t (n + 2560) v) (j + 2560) 0) same ∙ get_or-set_same t (n + 2560) v 0 (omega arith)
-        ∙ e ∙ ap parity (sym (mul-one n)) ∙ ap (λ (j : ℕ). parity (j * 1)) (sym same)
-    by (inr below) = get_or-set_other t (n + 2560) (k + 2560) v 0 (λ q. omega arith) ∙ w k below
-
-pub written_all : (t : List ℕ) (n : ℕ) → 256 ≤ n → Written n t → HasLast t
-unfolding Written HasLast
-written_all t n h w k l = w k (omega arith)
+pub last_written : (t bs rest : List ℕ) → length t ≡ 2816 → length bs ≡ 256 → IsByteTable bs → HasLast (take 2560 t ++ (bs ++ rest))
+unfolding HasLast IsByteTable entry_at
+last_written t bs rest l n h k below =
+    get_or-append_right (take 2560 t) (bs ++ rest) 2560 (k + 2560) 0 (length-take-le 2560 t (omega arith)) (omega arith)
+    ∙ ap (λ (i : ℕ). get_or (bs ++ rest) i 0) {x = k + 2560 - 2560} {y = k} (omega arith)
+    ∙ get_or_append_left bs rest 0 k (omega arith)
+    ∙ h k below ∙ ap parity (sym (mul-one k))
 
 -- ---- the others, from the last to the first
 
@@ -90,3 +79,7 @@ filled_next t i r v l h er ev f j from below = by (eq-or-lt_of_le from)
         ap (λ (k : ℕ). get_or (set t i v) k 0) (sym same) ∙ get_or-set_same t i v 0 (omega arith) ∙ value
         ∙ ap (λ (k : ℕ). entry_at (10 - k / 256) (k % 256)) same
     by (inr above) = get_or-set_other t i j v 0 (λ q. omega arith) ∙ f j (omega arith) below
+
+pub ruleset filled = (filled_last, filled_next, filled-all)
+
+pub ruleset written = (last_written, byte_table_rule)

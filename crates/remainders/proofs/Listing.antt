@@ -1,5 +1,5 @@
 -- The remainders, one after the other: a list with each reply's remainder in its place is the list of the definition.
-use mathlib.Core.Path.{◌≡◌, refl, sym, ap, ap₂, ◌∙◌, subst}
+use mathlib.Core.Path.{◌≡◌, refl, sym, ap, ◌∙◌, subst}
 use mathlib.Core.Logic.{◌⊎◌, inl, inr}
 use mathlib.Core.List.{List}
 use Prim.Native.Nat.{ℕ, zero, suc, ◌+◌, ◌*◌, ◌<◌, ◌≤◌}
@@ -13,7 +13,8 @@ use Rattle.message.proofs.Laws.{long_length}
 use Rattle.division.specs.Division.{remainder}
 use Rattle.division.proofs.Laws.{remainder-value}
 use Rattle.remainders.specs.Recording.{remainders_of, EachAlone}
-use Rattle.remainders.specs.Entries.{AreTables, lowest_first, highest_first, sum_of}
+use Rattle.remainders.specs.Entries.{AreTables, words_at, sum_of}
+use Rattle.remainders.specs.declared.replies.Words.{Words}
 use Rattle.remainders.proofs.Summing.{sum-is-remainder}
 
 abbrev pub reply_remainder : List ℕ → ℕ → ℕ
@@ -28,17 +29,15 @@ unfolding Divided
 divided_none s out j h = absurd (not-suc-le-zero h)
 
 -- one more, from the words that are at hand for it
-pub divided_next : (t s out : List ℕ) (i a v first second last : ℕ) → AreTables t → Bytes s → i < length out → a + 14 ≤ length s → a ≡ 14 * i
-    → first ≡ lowest_first s a → second ≡ lowest_first s (a + 4) → last ≡ highest_first s (a + 10)
-    → v ≡ sum_of t first second (get_or s (a + 8) 0) (get_or s (a + 9) 0) last → Divided s i out → Divided s (i + 1) (set out i v)
+pub divided_next : (t s out : List ℕ) (i v : ℕ) (w : Words) → AreTables t → Bytes s → i < length out → 14 * i + 14 ≤ length s
+    → w ≡ words_at s (14 * i) → v ≡ sum_of t w.first w.second w.ninth w.tenth w.last → Divided s i out → Divided s (i + 1) (set out i v)
 unfolding Divided
-divided_next t s out i a v first second last tables bytes within room ea ef es el ev d j h = by (eq-or-lt_of_le (omega arith))
+divided_next t s out i v w tables bytes within room ew ev d j h = by (eq-or-lt_of_le (omega arith))
   where
     value : v ≡ reply_remainder s i
     value =
-        ev ∙ ap₂ (λ (f g : ℕ). sum_of t f g (get_or s (a + 8) 0) (get_or s (a + 9) 0) last) ef es
-        ∙ ap (sum_of t (lowest_first s a) (lowest_first s (a + 4)) (get_or s (a + 8) 0) (get_or s (a + 9) 0)) el
-        ∙ sum-is-remainder s a t tables bytes room ∙ ap (λ (k : ℕ). remainder (number (take 14 (drop k s)))) ea
+        ev ∙ ap (λ (w : Words). sum_of t w.first w.second w.ninth w.tenth w.last) ew
+        ∙ sum-is-remainder s (14 * i) t tables bytes room
 
     by : (j ≡ i) ⊎ (j < i) → get_or (set out i v) j 0 ≡ reply_remainder s j
     by (inl same) = ap (λ (k : ℕ). get_or (set out i v) k 0) same ∙ get_or-set_same out i v 0 within ∙ value ∙ ap (reply_remainder s) (sym same)
@@ -62,6 +61,8 @@ unfolding Divided
 divided_all s out n k l h d =
     ext_get_or 0 out (remainders_of s n) (l ∙ sym (remainders-length n s))
     (λ i below. let b : i < n = subst (λ (m : ℕ). i < m) l below in d i (omega arith) ∙ sym (remainders-at n s i b))
+
+pub ruleset divided = (divided_none, divided_next, divided_all)
 
 pub each_alone : EachAlone
 unfolding EachAlone

@@ -3,6 +3,7 @@
 use Rattle.std.specs.Prelude.{ℕ, ◌+◌, ◌*◌, ◌-◌, ◌/◌, ◌%◌, ◌^◌, ◌<◌, ◌≡◌, List, get_or}
 use Rattle.std.specs.Int.Bits.{bit_xor}
 use Rattle.division.specs.Division.{parity}
+use Rattle.remainders.specs.declared.replies.Words.{Words}
 
 -- The entry of a byte with k bytes of the field after it: R of the field that has that byte there, and else zeros.
 unfoldable pub entry_at : ℕ → ℕ → ℕ
@@ -29,6 +30,11 @@ entry_in t w k = get_or t (w % 256 + k) 0
 unfoldable pub entries_in : List ℕ → ℕ → ℕ → ℕ
 entries_in t w k =
     bit_xor (bit_xor (entry_in t w k) (entry_in t (w / 256) (k + 256))) (bit_xor (entry_in t (w / 65536) (k + 512)) (entry_in t (w / 16777216) (k + 768)))
+
+-- The words of the reply that starts at a.
+abbrev pub words_at : List ℕ → ℕ → Words
+words_at s a =
+    record { first = lowest_first s a; second = lowest_first s (a + 4); ninth = get_or s (a + 8) 0; tenth = get_or s (a + 9) 0; last = highest_first s (a + 10) }
 
 -- The sum for a reply.
 unfoldable pub sum_of : List ℕ → ℕ → ℕ → ℕ → ℕ → ℕ → ℕ

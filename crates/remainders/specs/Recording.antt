@@ -1,18 +1,15 @@
 -- The remainders of a recording of long replies (document 02, Point 13: 'A recording of one million long replies').
-use Rattle.std.specs.Prelude.{ℕ, zero, suc, ◌*◌, ◌<◌, ◌≡◌, Bool, List, [], ◌∷◌, eqb, length, get_or, take, drop}
-use Rattle.outcome.specs.Outcomes.{Outcome, value, done, unless, left}
-use Rattle.outcome.specs.Outcomes.Outcome.{refusal}
+use Rattle.std.specs.Prelude.{ℕ, zero, suc, ◌*◌, ◌<◌, ◌≡◌, Bool, List, [], ◌∷◌, eqb, length, get_or, take, drop, Result}
+use Rattle.outcome.specs.Outcomes.{Outcome, value, done, unless, left, admission}
 use Rattle.outcome.specs.Refusals.{wrong_length}
 use Rattle.message.specs.Message.{number}
 use Rattle.division.specs.Division.{remainder}
 use Rattle.division.specs.Answers.{remainder_answer}
-use Rattle.remainders.specs.declared.Divided.{Divided}
-use Rattle.remainders.specs.declared.Divided.TheVariants.{All, Refused}
+use Rattle.outcome.specs.declared.Refusal.{Refusal}
 
--- What an answer says.
-abbrev pub said : Divided → Outcome
-said All = done
-said (Refused n) = refusal n
+-- What a call says: that it is done, or its refusal.
+abbrev pub said : Result Unit Refusal → Outcome
+said = admission
 
 -- So many replies of 14 bytes each have so many bytes.
 unfoldable pub are_as_many : ℕ → ℕ → Bool

@@ -10,38 +10,30 @@ mod tables;
 ghost use Rattle.std.specs.Prelude.{◌*◌, ◌≡◌, length};
 ghost use Rattle.remainders.specs.Recording.{said, remainders_outcome, remainders_after, remainders_of, are_as_many};
 
+use outcome::{Refusal, refuse_unless};
 use replies::sum_all;
 use tables::{TOTAL, fill_others, write_last};
 
-// All are divided, or the number of the refusal.
-#[derive(Clone, Copy)]
-pub enum Divided {
-    All,
-    Refused(u32),
-}
-
 // Divides a recording of long replies, 14 bytes each, and leaves the remainder of each.
-pub fn remainders(replies: &[u8], remainders: &mut [u32]) -> Divided
+#[tactic(auto, using(outcome::proofs::Laws::writing), unfolding(crate::specs::Recording::remainders_outcome, crate::specs::Recording::remainders_after, crate::specs::Recording::are_as_many))]
+pub fn remainders(replies: &[u8], remainders: &mut [u32]) -> Result<(), Refusal>
     ensures result_value { said result ≡ remainders_outcome replies.now (length remainders.old) }
     ensures remainders_after { remainders.new ≡ remainders_after replies.now remainders.old }
 {
-    if are_as_many(replies.len(), remainders.len()) {
-        divide_all(replies, remainders);
-        Divided::All
-    } else {
-        Divided::Refused(1)
-    }
+    refuse_unless(
+        are_as_many(replies.len(), remainders.len()),
+        Refusal::WrongLength,
+    )?;
+    divide_all(replies, remainders);
+    Ok(())
 }
 
 // Whether so many bytes are so many replies.
+#[tactic(auto, unfolding(crate::specs::Recording::are_as_many))]
 fn are_as_many(bytes: usize, count: usize) -> bool
     ensures { result ≡ are_as_many bytes count }
 {
-    if bytes % 14 == 0 {
-        bytes / 14 == count
-    } else {
-        false
-    }
+    bytes % 14 == 0 && bytes / 14 == count
 }
 
 fn divide_all(replies: &[u8], remainders: &mut [u32])

@@ -1,6 +1,6 @@
 // Eleven tables in a row, each of 256 entries: the first for the first byte of a field, the last, the byte table itself, for the
 // last byte. Each is made from the one after it, by a step of the byte table.
-ghost use Rattle.std.specs.Prelude.{◌<◌, ◌%◌, ◌≡◌, length};
+ghost use Rattle.std.specs.Prelude.{◌<◌, ◌%◌, ◌≡◌};
 ghost use Rattle.remainders.specs.Entries.{HasLast, AreTables};
 
 pub(crate) const TOTAL: usize = 2816;
@@ -9,27 +9,20 @@ pub(crate) const TOTAL: usize = 2816;
 const LAST: usize = 2560;
 
 // The byte table, in the last place.
-pub(crate) fn write_last(tables: &mut [u32])
-    requires { length tables.old ≡ 2816 }
+#[tactic(auto, using(crate::proofs::Filling::written))]
+pub(crate) fn write_last(tables: &mut [u32; TOTAL])
     ensures { HasLast tables.new }
 {
-    let bytes = division::byte_remainders();
-    let mut k: usize = 0;
-    while k < 256 {
-        tables[k + LAST] = bytes[k];
-        k += 1;
-    }
+    tables[LAST..].copy_from_slice(&division::byte_remainders());
 }
 
 // The others, from the last entry of the tenth down to the first of the first.
-pub(crate) fn fill_others(tables: &mut [u32])
-    requires tables_len { length tables.old ≡ 2816 }
-    requires has_last { HasLast tables.old }
+#[tactic(auto, using(crate::proofs::Filling::filled))]
+pub(crate) fn fill_others(tables: &mut [u32; TOTAL])
+    requires { HasLast tables.old }
     ensures { AreTables tables.new }
 {
-    let mut at = LAST;
-    while 0 < at {
-        at -= 1;
+    for at in (0..LAST).rev() {
         let after = tables[at + 256];
         let leaving = low_byte(after / 0x10000);
         let staying = after % 0x10000 * 256;

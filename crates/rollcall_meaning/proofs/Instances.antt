@@ -5,14 +5,13 @@ use mathlib.Core.Bool.{true}
 use mathlib.Core.List.{List, [], ◌∷◌}
 use Prim.Native.Nat.{ℕ}
 use lib.IntN.{pos}
+use Rattle.std.specs.Prelude.{Some, None}
 use lib.Dec.{lit≤}
 use Rattle.message.specs.Message.{is_word}
-use Rattle.rollcall_table.specs.declared.Reading.{Reading}
-use Rattle.rollcall_table.specs.declared.Reading.TheVariants.{Known, Missing}
 use Rattle.rollcall_table.specs.declared.Grade.{Grade}
 use Rattle.rollcall_table.specs.declared.Grade.TheVariants.{Clean, Sole, Several}
 use Rattle.rollcall_table.specs.declared.Sighting.{Sighting}
-use Rattle.rollcall_table.specs.Table.{blank, record_of, is_sound, live_in, in_order, holder, free_place, below}
+use Rattle.rollcall_table.specs.Table.{Altitude, blank, record_of, is_sound, live_in, in_order, holder, free_place, below}
 use Rattle.rollcall_table.specs.Standing.{beats}
 use Rattle.rollcall_plans.specs.Calls.{found, added, renewed, held, push, pull, opened, closed, clear_outcome, clear_count, clear_records, find_outcome, remove_outcome, remove_count, remove_records, remove_places, add_outcome, add_count, add_records, add_places}
 use Rattle.rollcall_meaning.specs.Maps.{Table, outcome, after}
@@ -25,25 +24,25 @@ use Rattle.rollcall_meaning.proofs.Replying.{earliest_unbeaten_stands}
 abbrev two : Table
 two = record { records = blank ∷ blank ∷ []; places = 0 ∷ 0 ∷ []; count = 0 }
 
-abbrev reply : Reading → ℕ → Grade → Sighting
+abbrev reply : Altitude → ℕ → Grade → Sighting
 reply z t g = record { address = 0x4840D6; altitude = z; time = t; grade = g }
 
-abbrev feet : ℕ → Reading
-feet n = Known (pos n)
+abbrev feet : ℕ → Altitude
+feet n = Some (pos n)
 
 -- equal, worse, better, earlier, later
 abbrev first : Sighting
 first = reply (feet 38000) 1000 Sole
 
 abbrev others : List Sighting
-others = reply (feet 1) 1000 Sole ∷ reply (feet 2) 1000 Several ∷ reply (feet 3) 1000 Clean ∷ reply (feet 4) 999 Clean ∷ reply Missing 1001 Several ∷ []
+others = reply (feet 1) 1000 Sole ∷ reply (feet 2) 1000 Several ∷ reply (feet 3) 1000 Clean ∷ reply (feet 4) 999 Clean ∷ reply None 1001 Several ∷ []
 
 pub each_is_answered : answers (adds (first ∷ others)) (after clear two) ≡ added ∷ held ∷ held ∷ renewed ∷ held ∷ renewed ∷ []
 unfolding answers adds outcome after clear_outcome clear_count clear_records add_outcome add_count add_records add_places is_sound live_in in_order holder free_place below beats is_word push opened
 each_is_answered = refl
 
 -- the last one stands
-pub last_is_found : outcome (find 0x4840D6) (after_all (adds (first ∷ others)) (after clear two)) ≡ found (record_of (reply Missing 1001 Several))
+pub last_is_found : outcome (find 0x4840D6) (after_all (adds (first ∷ others)) (after clear two)) ≡ found (record_of (reply None 1001 Several))
 unfolding after_all adds outcome after clear_outcome clear_count clear_records find_outcome add_outcome add_count add_records add_places is_sound live_in in_order holder free_place below beats is_word push opened
 last_is_found = refl
 

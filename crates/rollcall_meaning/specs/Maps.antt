@@ -7,10 +7,9 @@ use Rattle.outcome.specs.Outcomes.Outcome.{answer}
 use Rattle.outcome.specs.Refusals.{word_too_large}
 use Rattle.message.specs.Message.{is_word}
 use Rattle.rollcall_table.specs.declared.Record.{Record}
-use Rattle.rollcall_table.specs.declared.Reading.{Reading}
 use Rattle.rollcall_table.specs.declared.Sighting.{Sighting}
 use Rattle.rollcall_table.specs.declared.Grade.{Grade}
-use Rattle.rollcall_table.specs.Table.{holds, record_of}
+use Rattle.rollcall_table.specs.Table.{Altitude, holds, record_of}
 use Rattle.rollcall_table.specs.Standing.{beats}
 use Rattle.rollcall_plans.specs.Calls.{found, absent, kept, add_answer, clear_outcome, clear_count, clear_records, find_outcome, remove_outcome, remove_count, remove_records, remove_places, add_outcome, add_count, add_records, add_places}
 
@@ -18,7 +17,7 @@ use Rattle.rollcall_plans.specs.Calls.{found, absent, kept, add_answer, clear_ou
 
 -- An altitude or that it is missing, a time, and a grade.
 abbrev pub Value : Type 0
-Value = Reading × (ℕ × Grade)
+Value = Altitude × (ℕ × Grade)
 
 abbrev pub value_of : Record → Value
 value_of r = (r.altitude, (r.time, r.grade))

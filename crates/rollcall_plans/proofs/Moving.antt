@@ -1,58 +1,59 @@
--- The moves of the list of places: a turn of each loop, and what the first places are after it.
+-- The moves of the list of places: each is a copy within the list, and keeps its length.
 use mathlib.Core.Path.{◌≡◌, refl, sym, ap, ◌∙◌}
-use mathlib.Core.List.{List, [], ◌∷◌}
+use mathlib.Core.List.{List, [], ◌∷◌, ◌++◌}
 use Prim.Native.Nat.{ℕ, zero, suc, ◌+◌, ◌-◌, ◌≤◌, ◌<◌}
-use native.Mathlib.Nat.{not-suc-le-zero, le_of_suc-le-suc, suc-add}
+use native.Mathlib.Nat.{not-suc-le-zero, le_of_suc-le-suc, zero-add, suc-add}
+use native.Mathlib.Numerals.{add-one}
 use native.Mathlib.Omega.{arith}
-use lib.ListN.{length, set, get_or}
+use lib.ListN.{length, set, take, drop}
+use lib.Seq.{paste}
+use Rattle.std.specs.List.{copy_within}
 use Rattle.rollcall_plans.specs.Calls.{push, pull, opened, closed}
 
--- ---- a turn of each loop
+-- ---- the list opened
 
-open_turn : (ps : List ℕ) (i m v : ℕ) → i < length ps → opened i (suc m) v ps ≡ opened (i + 1) m (get_or ps i 0) (set ps i v)
+push_copies : (m p : ℕ) (ps : List ℕ) → m ≤ length ps → push m p ps ≡ take m (p ∷ ps) ++ drop m ps
+unfolding push
+push_copies zero p ps h = refl
+push_copies (suc m) p [] h = absurd (not-suc-le-zero h)
+push_copies (suc m) p (q ∷ qs) h = ap (p ∷◌) (push_copies m q qs (le_of_suc-le-suc h))
+
+open_copies : (k m v : ℕ) (ps : List ℕ) → k + m < length ps → opened k (suc m) v ps ≡ set (paste ps (suc k) (drop k ps) m) k v
 unfolding opened push
-open_turn [] i m v h = absurd (not-suc-le-zero h)
-open_turn (p ∷ ps) zero m v h = refl
-open_turn (p ∷ ps) (suc i) m v h =
-    ap (p ∷◌) (open_turn ps i m v (le_of_suc-le-suc h)) ∙ ap (λ (k : ℕ). opened k m (get_or ps i 0) (p ∷ set ps i v)) (sym (suc-add i 1))
+open_copies zero m v [] h = absurd (not-suc-le-zero h)
+open_copies zero m v (p ∷ ps) h =
+    let e : suc zero + m ≡ suc m = omega arith in
+    ap (v ∷◌) (push_copies m p ps (omega arith)) ∙ ap (λ (i : ℕ). v ∷ (take m (p ∷ ps) ++ drop i (p ∷ ps))) (sym e)
+open_copies (suc k) m v [] h = absurd (not-suc-le-zero h)
+open_copies (suc k) m v (p ∷ ps) h =
+    let e : suc (suc k) + m ≡ suc (suc k + m) = suc-add (suc k) m in
+    ap (p ∷◌) (open_copies k m v ps (omega (arith, h))) ∙ ap (λ (i : ℕ). p ∷ set ((take (suc k) ps ++ take m (drop k ps)) ++ drop i (p ∷ ps)) k v) (sym e)
 
-pub open_next : (ps : List ℕ) (i e v : ℕ) → i < e → e ≤ length ps → opened i (e - i) v ps ≡ opened (i + 1) (e - (i + 1)) (get_or ps i 0) (set ps i v)
-open_next ps i e v h l =
-    let m : e - i ≡ suc (e - (i + 1)) = omega arith in
-    ap (λ (k : ℕ). opened i k v ps) m ∙ open_turn ps i (e - (i + 1)) v (omega arith)
+pub entered : (ps : List ℕ) (k n v : ℕ) → k ≤ n → n < length ps → set (copy_within ps k n (k + 1)) k v ≡ opened k (n + 1 - k) v ps
+entered ps k n v h l =
+    let m : n + 1 - k ≡ suc (n - k) = omega arith in
+    ap (λ (i : ℕ). set (paste ps i (drop k ps) (n - k)) k v) (add-one k) ∙ sym (open_copies k (n - k) v ps (omega arith)) ∙ ap (λ (i : ℕ). opened k i v ps) (sym m)
 
-open_none : (ps : List ℕ) (i v : ℕ) → opened i 0 v ps ≡ ps
-unfolding opened push
-open_none ps zero v = refl
-open_none [] (suc i) v = refl
-open_none (p ∷ ps) (suc i) v = ap (p ∷◌) (open_none ps i v)
+-- ---- the list closed
 
-pub open-end : (ps : List ℕ) (i e v : ℕ) → e ≤ i → opened i (e - i) v ps ≡ ps
-open-end ps i e v h = let m : e - i ≡ 0 = omega arith in ap (λ (k : ℕ). opened i k v ps) m ∙ open_none ps i v
+pull_copies : (m p : ℕ) (ps : List ℕ) → m ≤ length ps → pull m (p ∷ ps) ≡ take m ps ++ drop m (p ∷ ps)
+unfolding pull
+pull_copies zero p ps h = refl
+pull_copies (suc m) p [] h = absurd (not-suc-le-zero h)
+pull_copies (suc m) p (q ∷ qs) h = ap (q ∷◌) (pull_copies m q qs (le_of_suc-le-suc h))
 
-close_turn : (ps : List ℕ) (i m : ℕ) → i + 1 < length ps → closed i (suc m) ps ≡ closed (i + 1) m (set ps i (get_or ps (i + 1) 0))
+close_copies : (k m : ℕ) (ps : List ℕ) → k + m < length ps → closed k m ps ≡ paste ps k (drop (suc k) ps) m
 unfolding closed pull
-close_turn [] i m h = absurd (not-suc-le-zero h)
-close_turn (p ∷ []) zero m h = absurd (not-suc-le-zero (le_of_suc-le-suc h))
-close_turn (p ∷ q ∷ ps) zero m h = refl
-close_turn (p ∷ ps) (suc i) m h =
-    let g : i + 1 < length ps = omega (arith, h) in
-    let s : suc i + 1 ≡ suc (i + 1) = suc-add i 1 in
-    ap (p ∷◌) (close_turn ps i m g) ∙ ap (λ (k : ℕ). closed k m (set (p ∷ ps) (suc i) (get_or (p ∷ ps) k 0))) (sym s)
+close_copies zero m [] h = absurd (not-suc-le-zero h)
+close_copies zero m (p ∷ ps) h = pull_copies m p ps (omega (arith, h)) ∙ ap (λ (i : ℕ). take m ps ++ drop i (p ∷ ps)) (sym (zero-add m))
+close_copies (suc k) m [] h = absurd (not-suc-le-zero h)
+close_copies (suc k) m (p ∷ ps) h =
+    ap (p ∷◌) (close_copies k m ps (omega (arith, h))) ∙ ap (λ (i : ℕ). p ∷ ((take k ps ++ take m (drop (suc k) ps)) ++ drop i (p ∷ ps))) (sym (suc-add k m))
 
-pub close_next : (ps : List ℕ) (i e : ℕ) → i + 1 < e → e ≤ length ps → closed i (e - 1 - i) ps ≡ closed (i + 1) (e - 1 - (i + 1)) (set ps i (get_or ps (i + 1) 0))
-close_next ps i e h l =
-    let m : e - 1 - i ≡ suc (e - 1 - (i + 1)) = omega arith in
-    ap (λ (k : ℕ). closed i k ps) m ∙ close_turn ps i (e - 1 - (i + 1)) (omega arith)
-
-close_none : (ps : List ℕ) (i : ℕ) → closed i 0 ps ≡ ps
-unfolding closed pull
-close_none ps zero = refl
-close_none [] (suc i) = refl
-close_none (p ∷ ps) (suc i) = ap (p ∷◌) (close_none ps i)
-
-pub close_end : (ps : List ℕ) (i e : ℕ) → e ≤ i + 1 → closed i (e - 1 - i) ps ≡ ps
-close_end ps i e h = let m : e - 1 - i ≡ 0 = omega arith in ap (λ (k : ℕ). closed i k ps) m ∙ close_none ps i
+pub left : (ps : List ℕ) (k n : ℕ) → k < n → n ≤ length ps → copy_within ps (k + 1) n k ≡ closed k (n - 1 - k) ps
+left ps k n h l =
+    let m : n - (k + 1) ≡ n - 1 - k = omega arith in
+    ap (λ (i : ℕ). paste ps k (drop i ps) (n - (k + 1))) (add-one k) ∙ ap (λ (i : ℕ). paste ps k (drop (suc k) ps) i) m ∙ sym (close_copies k (n - 1 - k) ps (omega arith))
 
 -- ---- lengths
 

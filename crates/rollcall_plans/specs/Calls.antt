@@ -2,28 +2,27 @@
 --
 -- A call that is refused changes nothing. The place of a new record is the lowest one that is free; past the count the places
 -- stay as the moves of the list leave them.
-use Rattle.std.specs.Prelude.{ℕ, zero, suc, ◌+◌, ◌-◌, Bool, not, cond, ◌||◌, List, [], ◌∷◌, pos, negsuc, length, set}
-use Rattle.outcome.specs.Outcomes.{Outcome, done, unless}
+use Rattle.std.specs.Prelude.{ℕ, zero, suc, ◌+◌, ◌-◌, Bool, not, cond, ◌||◌, List, [], ◌∷◌, pos, negsuc, length, set, Some, None, Result}
+use Rattle.outcome.specs.Outcomes.{Outcome, done, unless, said_by}
 use Rattle.outcome.specs.Outcomes.Outcome.{refusal, answer}
+use Rattle.outcome.specs.declared.Refusal.{Refusal}
 use Rattle.outcome.specs.Refusals.{word_too_large, table_unsound, table_full}
 use Rattle.message.specs.Message.{is_word}
 use Rattle.rollcall_table.specs.declared.Record.{Record}
-use Rattle.rollcall_table.specs.declared.Reading.{Reading}
-use Rattle.rollcall_table.specs.declared.Reading.TheVariants.{Known, Missing}
 use Rattle.rollcall_table.specs.declared.Sighting.{Sighting}
 use Rattle.rollcall_table.specs.Standing.{grade_number, record_beats}
 use Rattle.rollcall_plans.specs.declared.Rolled.{Rolled}
 use Rattle.rollcall_plans.specs.declared.Rolled.TheVariants as R
-use Rattle.rollcall_table.specs.Table.{one, record_at, right_lengths, is_sound, holder, free_place, is_in, has_room, position, unmarked, unmarked_all, record_of}
+use Rattle.rollcall_table.specs.Table.{Altitude, one, record_at, right_lengths, is_sound, holder, free_place, is_in, has_room, position, unmarked, unmarked_all, record_of}
 
 -- ---- what an answer says
 
 -- An altitude as an answer's values: whether it is known; where it is, 1 where it is below zero and else 0, and the number
 -- without its sign.
-abbrev pub altitude_values : Reading → List ℕ
-altitude_values (Known (pos n)) = 1 ∷ 0 ∷ n ∷ []
-altitude_values (Known (negsuc n)) = 1 ∷ 1 ∷ suc n ∷ []
-altitude_values Missing = 0 ∷ []
+abbrev pub altitude_values : Altitude → List ℕ
+altitude_values (Some (pos n)) = 1 ∷ 0 ∷ n ∷ []
+altitude_values (Some (negsuc n)) = 1 ∷ 1 ∷ suc n ∷ []
+altitude_values None = 0 ∷ []
 
 -- The answer that a record was found: whether it is live, its address, its time, its grade and its altitude.
 abbrev pub found : Record → Outcome
@@ -43,15 +42,18 @@ abbrev pub held : Outcome
 held = answer 6 []
 
 -- What a Rolled says. Points 4 and 12 number no answers; these are in the order of the enum.
-abbrev pub said : Rolled → Outcome
-said R.Cleared = done
-said R.Added = added
-said R.Renewed = renewed
-said R.Removed = answer 3 []
-said (R.Found r) = found r
-said R.Absent = absent
-said R.Held = held
-said (R.Refused n) = refusal n
+abbrev pub told : Rolled → Outcome
+told R.Cleared = done
+told R.Added = added
+told R.Renewed = renewed
+told R.Removed = answer 3 []
+told (R.Found r) = found r
+told R.Absent = absent
+told R.Held = held
+
+-- What the answer of a reply says.
+abbrev pub said : Result Rolled Refusal → Outcome
+said = said_by told
 
 -- ---- parts of the definitions
 

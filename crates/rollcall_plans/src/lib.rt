@@ -1,16 +1,15 @@
 // What a call on a roll-call table answers and changes, decided by value from where the address stands.
 #![tactic(auto)]
 
+use outcome::Refusal;
 use rollcall_table::Record;
 
 mod plans;
 
-pub use plans::{
-    addition, cleared, entry_of, found, nowhere, place_of, refused, removal, reply_of, spot_at,
-};
+pub use plans::{addition, clearing, found, removal, reply_of};
 
-// What a call answers.
-#[derive(Clone, Copy)]
+// What a call answers that is not refused.
+#[derive(Clone, Copy, Debug, PartialEq, Eq)]
 pub enum Rolled {
     Cleared,
     Added,
@@ -19,35 +18,44 @@ pub enum Rolled {
     Found(Record),
     Absent,
     Held,
-    Refused(u32),
 }
 
-// The answer, and the count after the call.
-#[derive(Clone, Copy)]
+// The answer, or why the call is refused; and the count after the call.
+#[derive(Clone, Copy, Debug, PartialEq, Eq)]
 pub struct Reply {
-    pub answer: Rolled,
+    pub answer: Result<Rolled, Refusal>,
     pub count: usize,
 }
 
-// Where an address stands: the refusal's number or 0; whether it is live; where it stands in the list, or is to stand; its
-// place, or else the length; its record, or else a blank one.
-#[derive(Clone, Copy)]
-pub struct Spot {
-    pub refusal: u32,
-    pub present: bool,
-    pub at: usize,
+// A record and its place.
+#[derive(Clone, Copy, Debug, PartialEq, Eq)]
+pub struct Placed {
     pub place: usize,
     pub entry: Record,
 }
 
-// What a call answers and changes: the record to be put at a place, and the part of the list that moves up or down.
-#[derive(Clone, Copy)]
+// Where an address stands in the list, or is to stand; and its live record, if there is one.
+#[derive(Clone, Copy, Debug, PartialEq, Eq)]
+pub struct Spot {
+    pub at: usize,
+    pub held: Option<Placed>,
+}
+
+// What a call changes: nothing; every live mark, which is unset; a record, which another replaces at its place; or a record and the list,
+// which its place enters at a position, or leaves there.
+#[derive(Clone, Copy, Debug, PartialEq, Eq)]
+pub enum Change {
+    Nothing,
+    Unmarked,
+    Replaced(Placed),
+    Entered(usize, Placed),
+    Left(usize, Placed),
+}
+
+// What a call answers and changes, and the count after it.
+#[derive(Clone, Copy, Debug, PartialEq, Eq)]
 pub struct Plan {
     pub answer: Rolled,
     pub count: usize,
-    pub place: usize,
-    pub entry: Record,
-    pub at: usize,
-    pub opened: usize,
-    pub closed: usize,
+    pub change: Change,
 }

@@ -1,205 +1,127 @@
 // What is decided about a call, by value.
 ghost use Rattle.std.specs.Prelude.{◌≡◌};
-ghost use Rattle.rollcall_plans.specs.Plans.{nowhere_of, spot_at, idle_of, found_by, removal_of, renewal_of, entrance_of, addition_of};
+ghost use Rattle.rollcall_plans.specs.Plans.{addition_of, answer_of, clearing_plan, count_of, entrance_of, found_by, idle_of, removal_of, renewal_of, spot_by};
 
-use crate::{Plan, Reply, Rolled, Spot};
-use rollcall_table::{Record, beats, blank, lowered, raised, unmarked};
+use crate::{Change, Placed, Plan, Reply, Rolled, Spot};
+use outcome::Refusal;
+use rollcall_table::Record;
 
-// The spot of a refused call.
-pub fn nowhere(refusal: u32, length: usize) -> Spot
-    ensures { result ≡ nowhere_of refusal length }
-{
-    Spot {
-        refusal: refusal,
-        present: false,
-        at: 0,
-        place: length,
-        entry: blank(),
-    }
-}
-
-// The spot of an address that is live, or is not.
-pub fn spot_at(present: bool, at: usize, place: usize, r: Record, length: usize) -> Spot
-    ensures { result ≡ spot_at present at place r length }
-{
-    if present {
+impl Spot {
+    // The spot of an address, by the record that the list names at the position where it stands or is to stand.
+    pub fn new(at: usize, listed: Option<Placed>, address: u32) -> Spot
+        ensures { result ≡ spot_by at listed address }
+    {
         Spot {
-            refusal: 0,
-            present: true,
-            at: at,
-            place: place,
-            entry: r,
-        }
-    } else {
-        Spot {
-            refusal: 0,
-            present: false,
-            at: at,
-            place: length,
-            entry: blank(),
+            at,
+            held: listed.filter(|placed| placed.entry.is_of(address)),
         }
     }
 }
 
-// The reply of a refused call; the count is as passed in.
-pub fn refused(refusal: u32, count: usize) -> Reply
-    ensures { (result.answer ≡ Rolled.Refused refusal) × (result.count ≡ count) }
+// The answer of find.
+pub fn found(spot: Spot) -> Rolled
+    ensures { result ≡ found_by spot.held }
 {
-    Reply {
-        answer: Rolled::Refused(refusal),
-        count: count,
+    match spot.held {
+        Some(held) => Rolled::Found(held.entry),
+        None => Rolled::Absent,
     }
 }
 
-// The reply of a table that was cleared.
-pub fn cleared() -> Reply
-    ensures { (result.answer ≡ Rolled.Cleared) × (result.count ≡ 0) }
-{
-    Reply {
-        answer: Rolled::Cleared,
-        count: 0,
-    }
-}
-
-// The reply of find; the count is as passed in.
-pub fn found(s: Spot, count: usize) -> Reply
-    ensures { (result.answer ≡ found_by s) × (result.count ≡ count) }
-{
-    Reply {
-        answer: found_by(s),
-        count: count,
-    }
-}
-
-fn found_by(s: Spot) -> Rolled
-    ensures { result ≡ found_by s }
-{
-    if s.refusal == 0 {
-        if s.present {
-            let entry = s.entry;
-            Rolled::Found(entry)
-        } else {
-            Rolled::Absent
-        }
-    } else {
-        Rolled::Refused(s.refusal)
-    }
-}
-
-// A plan that changes nothing: its place is past the end, and no part of the list moves.
-fn idle(answer: Rolled, count: usize, length: usize) -> Plan
-    ensures { result ≡ idle_of answer count length }
+// What clear is to change.
+pub fn clearing() -> Plan
+    ensures { result ≡ clearing_plan }
 {
     Plan {
-        answer: answer,
-        count: count,
-        place: length,
-        entry: blank(),
-        at: 0,
-        opened: 0,
-        closed: 0,
+        answer: Rolled::Cleared,
+        count: 0,
+        change: Change::Unmarked,
     }
 }
 
 // What remove is to change.
-pub fn removal(s: Spot, count: usize) -> Plan
-    ensures { result ≡ removal_of s count }
+pub fn removal(spot: Spot, count: usize) -> Plan
+    ensures { result ≡ removal_of spot.at spot.held count }
 {
-    if s.refusal == 0 {
-        if s.present {
-            let entry = s.entry;
+    match spot.held {
+        Some(held) => {
+            let entry = held.entry.unmarked();
             Plan {
                 answer: Rolled::Removed,
-                count: lowered(count),
-                place: s.place,
-                entry: unmarked(entry),
-                at: s.at,
-                opened: s.at,
-                closed: count,
+                count: count.saturating_sub(1),
+                change: Change::Left(spot.at, Placed { entry, ..held }),
             }
-        } else {
-            idle(Rolled::Absent, count, s.place)
         }
-    } else {
-        idle(Rolled::Refused(s.refusal), count, s.place)
+        None => idle(Rolled::Absent, count),
     }
 }
 
-// What adding or renewing is to change: row 9 is asked last.
-pub fn addition(s: Spot, free: usize, length: usize, count: usize, r: Record) -> Plan
-    ensures { result ≡ addition_of s free length count r }
+// What adding or renewing is to change, where a place is free or none: row 9 is asked last.
+pub fn addition(
+    spot: Spot,
+    free: Option<usize>,
+    count: usize,
+    entry: Record,
+) -> Result<Plan, Refusal>
+    ensures { result ≡ addition_of spot.at spot.held free count entry }
 {
-    if s.refusal == 0 {
-        if s.present {
-            let held = s.entry;
-            renewal(held, s.place, length, count, r)
-        } else {
-            entrance(s.at, free, length, count, r)
-        }
-    } else {
-        idle(Rolled::Refused(s.refusal), count, length)
+    match spot.held {
+        Some(held) => Ok(renewal(held, count, entry)),
+        None => Ok(entrance(spot.at, free.ok_or(Refusal::TableFull)?, count, entry)),
     }
 }
 
 // The record held remains unless the new one beats it.
-fn renewal(held: Record, place: usize, length: usize, count: usize, r: Record) -> Plan
-    ensures { result ≡ renewal_of held place length count r }
+fn renewal(held: Placed, count: usize, entry: Record) -> Plan
+    ensures { result ≡ renewal_of held count entry }
 {
-    if beats(r, held) {
+    let place = held.place;
+    if entry.beats(held.entry) {
         Plan {
             answer: Rolled::Renewed,
-            count: count,
-            place: place,
-            entry: r,
-            at: 0,
-            opened: 0,
-            closed: 0,
+            count,
+            change: Change::Replaced(Placed { place, entry }),
         }
     } else {
-        idle(Rolled::Held, count, length)
+        idle(Rolled::Held, count)
     }
 }
 
-// A new address enters at the lowest free place.
-fn entrance(at: usize, free: usize, length: usize, count: usize, r: Record) -> Plan
-    ensures { result ≡ entrance_of at free length count r }
+// A new address enters at a free place.
+fn entrance(at: usize, place: usize, count: usize, entry: Record) -> Plan
+    ensures { result ≡ entrance_of at place count entry }
 {
-    if free < length {
-        Plan {
-            answer: Rolled::Added,
-            count: raised(count),
-            place: free,
-            entry: r,
-            at: at,
-            opened: raised(count),
-            closed: at,
-        }
-    } else {
-        idle(Rolled::Refused(9), count, length)
+    Plan {
+        answer: Rolled::Added,
+        count: count.saturating_add(1),
+        change: Change::Entered(at, Placed { place, entry }),
     }
 }
 
-// The place that a plan writes to.
-pub fn place_of(p: Plan) -> usize
-    ensures { result ≡ p.place }
+// A plan that changes nothing.
+fn idle(answer: Rolled, count: usize) -> Plan
+    ensures { result ≡ idle_of answer count }
 {
-    p.place
+    Plan {
+        answer,
+        count,
+        change: Change::Nothing,
+    }
 }
 
-// The record that a plan writes.
-pub fn entry_of(p: Plan) -> Record
-    ensures { result ≡ p.entry }
+// The reply of a plan that is carried out; of a refused call, whose count is as passed in.
+pub fn reply_of(plan: Result<Plan, Refusal>, count: usize) -> Reply
+    ensures answer { result.answer ≡ answer_of plan }
+    ensures count { result.count ≡ count_of plan count }
 {
-    p.entry
-}
-
-// The reply of a plan that is carried out.
-pub fn reply_of(p: Plan) -> Reply
-    ensures { (result.answer ≡ p.answer) × (result.count ≡ p.count) }
-{
-    let answer = p.answer;
-    Reply {
-        answer: answer,
-        count: p.count,
+    match plan {
+        Ok(plan) => Reply {
+            answer: Ok(plan.answer),
+            count: plan.count,
+        },
+        Err(refusal) => Reply {
+            answer: Err(refusal),
+            count,
+        },
     }
 }

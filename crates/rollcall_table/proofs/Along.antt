@@ -1,68 +1,43 @@
 -- Along the records and along the list: what a turn of each loop does, and what is left at its end.
 use mathlib.Core.Path.{◌≡◌, refl, sym, ap, ◌∙◌, subst}
-use mathlib.Core.Bool.{Bool, true, false, cond, ◌&&◌}
+use mathlib.Core.Bool.{Bool, true, false, cond, not, ◌&&◌}
 use mathlib.Core.List.{List, [], ◌∷◌}
-use Prim.Native.Nat.{ℕ, zero, suc, ◌+◌, ◌-◌, ◌≤◌, ◌<◌}
-use native.Mathlib.Nat.{not-suc-le-zero, le_of_suc-le-suc, suc-add, add_assoc, le_trans}
+use Prim.Native.Nat.{ℕ, zero, suc, ◌+◌, ◌≤◌, ◌<◌}
+use native.Mathlib.Nat.{not-suc-le-zero, le_of_suc-le-suc, suc-add, le_trans, zero-add}
 use native.Mathlib.Numerals.{add-one}
 use native.Mathlib.Omega.{arith}
-use lib.Dec.{lit≤, ltb, leb}
-use lib.ListN.{length, get_or, set, take, drop}
-use lib.Seq.{drop-cons, get_or-take, length-take-le}
+use lib.Dec.{ltb, leb}
+use lib.ListN.{length, get_or, get_or-eq_default, set, take, drop}
+use lib.Seq.{drop-cons}
+use Rattle.std.proofs.lemmas.List.{drop_all, get_or_default}
+use Rattle.std.proofs.lemmas.List.Recursion.{is_count_by, is_position_or_len}
 use borrow.Author.Tests.{ltb-true, ltb-false, lt-ltb, leb-true}
-use Rattle.outcome.proofs.Laws.{never, both}
+use Rattle.outcome.proofs.Laws.{both}
 use Rattle.message.specs.Message.{is_word}
 use Rattle.rollcall_table.specs.declared.Record.{Record}
-use Rattle.rollcall_table.specs.Table.{record_at, place_at, address_at, one, live_in, is_next, in_order, free_place, below, unmarked, unmarked_all}
-use Rattle.rollcall_table.specs.Checks.{ordered_to}
+use Rattle.rollcall_table.specs.Table.{blank, record_at, address_at, one, live_in, is_next, in_order, free_place, has_room, below, unmarked, unmarked_all}
+use Rattle.std.specs.Prelude.{Some, None}
+use Rattle.std.specs.List.{count_by, position}
 
 -- ---- how many are live
 
-live_at : (rs : List Record) (i : ℕ) → i < length rs → live_in (drop i rs) ≡ one (record_at rs i).live + live_in (drop (i + 1) rs)
+pub live_count : (rs : List Record) → count_by (λ r. r.live) rs ≡ live_in rs
 unfolding live_in
-live_at [] i h = absurd (not-suc-le-zero h)
-live_at (r ∷ rs) zero h = refl
-live_at (r ∷ rs) (suc i) h =
-    live_at rs i (le_of_suc-le-suc h) ∙ ap (λ (k : ℕ). one (record_at rs i).live + live_in (drop k (r ∷ rs))) (sym (suc-add i 1))
-
-one-le : (b : Bool) → one b ≤ 1
-one-le true = lit≤ tt
-one-le false = lit≤ tt
-
-pub live_le : (rs : List Record) → live_in rs ≤ length rs
-unfolding live_in
-live_le [] = omega arith
-live_le (r ∷ rs) = omega (arith, one-le r.live, live_le rs)
-
-pub live_past : (rs : List Record) (i : ℕ) → length rs ≤ i → live_in (drop i rs) ≡ 0
-unfolding live_in
-live_past [] zero h = refl
-live_past [] (suc i) h = refl
-live_past (r ∷ rs) zero h = absurd (not-suc-le-zero h)
-live_past (r ∷ rs) (suc i) h = live_past rs i (le_of_suc-le-suc h)
-
--- what was counted, with the one at i, and what is left after it
-pub live_turn : (rs : List Record) (n i k : ℕ) → i < length rs → k ≡ one (record_at rs i).live → n + live_in (drop i rs) ≡ live_in rs
-    → n + k + live_in (drop (i + 1) rs) ≡ live_in rs
-live_turn rs n i k h e inv =
-    add_assoc n k (live_in (drop (i + 1) rs)) ∙ ap (λ (c : ℕ). n + (c + live_in (drop (i + 1) rs))) e ∙ ap (n +◌) (sym (live_at rs i h)) ∙ inv
+live_count rs = sym (is_count_by live_in (λ r. r.live) refl (λ r rs. by r.live (live_in rs)) rs)
+  where
+    by : (b : Bool) (k : ℕ) → one b + k ≡ cond b (1 + k) k
+    by true k = refl
+    by false k = zero-add k
 
 -- ---- the lowest free place
 
-pub free_at : (rs : List Record) (i : ℕ) (b : Bool) → i < length rs → (record_at rs i).live ≡ b
-    → free_place (drop i rs) ≡ cond b (suc (free_place (drop (i + 1) rs))) 0
+pub free_position : (rs : List Record) → position (λ r. not r.live) rs ≡ cond (has_room rs) (Some (free_place rs)) None
 unfolding free_place
-free_at [] i b h e = absurd (not-suc-le-zero h)
-free_at (r ∷ rs) zero b h e = ap (λ (c : Bool). cond c (suc (free_place rs)) 0) e
-free_at (r ∷ rs) (suc i) b h e =
-    free_at rs i b (le_of_suc-le-suc h) e ∙ ap (λ (k : ℕ). cond b (suc (free_place (drop k (r ∷ rs)))) 0) (sym (suc-add i 1))
-
-pub free_past : (rs : List Record) (i : ℕ) → length rs ≤ i → free_place (drop i rs) ≡ 0
-unfolding free_place
-free_past [] zero h = refl
-free_past [] (suc i) h = refl
-free_past (r ∷ rs) zero h = absurd (not-suc-le-zero h)
-free_past (r ∷ rs) (suc i) h = free_past rs i (le_of_suc-le-suc h)
+free_position rs = ap (λ (k : ℕ). cond (ltb k (length rs)) (Some k) None) (sym (is_position_or_len free_place (λ r. not r.live) refl (λ r rs. by r.live (free_place rs)) rs))
+  where
+    by : (b : Bool) (k : ℕ) → cond b (suc k) 0 ≡ cond (not b) 0 (1 + k)
+    by true k = omega arith
+    by false k = refl
 
 -- ---- the live marks unset
 
@@ -82,63 +57,42 @@ pub unmark_turn : (rs l : List Record) (i : ℕ) (s : Record) → l ≡ unmarked
 unmark_turn rs l i s el es =
     ap (λ (y : Record). set l i y) es ∙ ap (λ (m : List Record). set m i (unmarked (record_at m i))) el ∙ unmark_next i rs
 
-pub unmark_length : (i : ℕ) (rs : List Record) → length (unmarked_to i rs) ≡ length rs
-unmark_length zero rs = refl
-unmark_length (suc i) [] = refl
-unmark_length (suc i) (r ∷ rs) = ap suc (unmark_length i rs)
-
 pub unmark_end : (i : ℕ) (rs : List Record) → length rs ≤ i → unmarked_to i rs ≡ unmarked_all rs
 unmark_end zero [] h = refl
 unmark_end zero (r ∷ rs) h = absurd (not-suc-le-zero h)
 unmark_end (suc i) [] h = refl
 unmark_end (suc i) (r ∷ rs) h = ap (unmarked r ∷◌) (unmark_end i rs (le_of_suc-le-suc h))
 
+-- ---- a record that is read
+
+pub record_within : (rs : List Record) (p q : ℕ) (r : Record) → true ≡ ltb p (length rs) → r ≡ get_or rs p r → p ≡ q → record_at rs q ≡ r
+record_within rs p q r l e s = ap (λ (k : ℕ). record_at rs k) (sym s) ∙ get_or_default rs p blank r (ltb-true p (length rs) (sym l)) ∙ sym e
+
+pub record_past : (rs : List Record) (p q : ℕ) → false ≡ ltb p (length rs) → p ≡ q → record_at rs q ≡ blank
+record_past rs p q l s = ap (λ (k : ℕ). record_at rs k) (sym s) ∙ get_or-eq_default rs blank (ltb-false p (length rs) (sym l))
+
 -- ---- the list's order
 
--- the list from i on, below the count
-rest : (ps : List ℕ) (n i : ℕ) → i < n → n ≤ length ps → drop i (take n ps) ≡ place_at ps i ∷ drop (i + 1) (take n ps)
-rest ps n i h l =
-    let within : i < length (take n ps) = subst (λ (k : ℕ). i < k) (sym (length-take-le n ps l)) h in
-    drop-cons (take n ps) i 0 within ∙ ap (λ (p : ℕ). p ∷ drop (suc i) (take n ps)) (get_or-take n ps i 0 h)
-    ∙ ap (λ (k : ℕ). place_at ps i ∷ drop k (take n ps)) (sym (add-one i))
+-- what the record listed at i says of the list from i on
+order_at_turn : (rs : List Record) (least i : ℕ) (qs : List ℕ) (b : Bool) → i < length qs → is_next least (record_at rs (get_or qs i 0)) ≡ b
+    → in_order rs least (drop i qs) ≡ (b && in_order rs (address_at rs (get_or qs i 0) + 1) (drop (i + 1) qs))
+unfolding in_order
+order_at_turn rs least i qs b h e =
+    let q = get_or qs i 0 in
+    let rest = drop (i + 1) qs in
+    ap (in_order rs least) (drop-cons qs i 0 h ∙ ap (λ (k : ℕ). q ∷ drop k qs) (sym (add-one i)))
+    ∙ ap (λ (c : Bool). c && in_order rs (suc (address_at rs q)) rest) e ∙ ap (λ (k : ℕ). b && in_order rs k rest) (sym (add-one (address_at rs q)))
 
-rest-none : (ps : List ℕ) (n i : ℕ) → n ≤ i → drop i (take n ps) ≡ []
-rest-none ps zero zero h = refl
-rest-none ps zero (suc i) h = refl
-rest-none ps (suc n) zero h = absurd (not-suc-le-zero h)
-rest-none [] (suc n) (suc i) h = refl
-rest-none (p ∷ ps) (suc n) (suc i) h = rest-none ps n i (le_of_suc-le-suc h)
+pub order_stops : (rs : List Record) (least i : ℕ) (qs : List ℕ) → i < length qs → is_next least (record_at rs (get_or qs i 0)) ≡ false → in_order rs least (drop i qs) ≡ false
+order_stops rs least i qs h e = order_at_turn rs least i qs false h e
 
-pub ordered_turn : (rs : List Record) (ps : List ℕ) (n i least : ℕ) (r : Record) (b : Bool) → i < n → n ≤ length ps → r ≡ record_at rs (place_at ps i) → is_next least r ≡ b
-    → ordered_to rs least (drop i (take n ps)) ≡ cond b (suc (ordered_to rs (suc r.address) (drop (i + 1) (take n ps)))) 0
-unfolding ordered_to
-ordered_turn rs ps n i least r b h l e f =
-    let here = record_at rs (place_at ps i) in
-    ap (ordered_to rs least) (rest ps n i h l)
-    ∙ ap (λ (q : Record). cond (is_next least q) (suc (ordered_to rs (suc q.address) (drop (i + 1) (take n ps)))) 0) (sym e)
-    ∙ ap (λ (c : Bool). cond c (suc (ordered_to rs (suc r.address) (drop (i + 1) (take n ps)))) 0) f
+pub order_goes_on : (rs : List Record) (least i : ℕ) (qs : List ℕ) → i < length qs → is_next least (record_at rs (get_or qs i 0)) ≡ true
+    → in_order rs least (drop i qs) ≡ in_order rs (address_at rs (get_or qs i 0) + 1) (drop (i + 1) qs)
+order_goes_on rs least i qs h e = order_at_turn rs least i qs true h e
 
-pub ordered-next : (rs : List Record) (ps : List ℕ) (n i least next : ℕ) (r : Record) → i < n → n ≤ length ps → r ≡ record_at rs (place_at ps i) → is_next least r ≡ true → next ≡ suc r.address
-    → i + ordered_to rs least (drop i (take n ps)) ≡ ordered_to rs 0 (take n ps) → i + 1 + ordered_to rs next (drop (i + 1) (take n ps)) ≡ ordered_to rs 0 (take n ps)
-ordered-next rs ps n i least next r h l e f g inv =
-    let turn : ordered_to rs least (drop i (take n ps)) ≡ suc (ordered_to rs (suc r.address) (drop (i + 1) (take n ps))) = ordered_turn rs ps n i least r true h l e f in
-    let same : ordered_to rs next (drop (i + 1) (take n ps)) ≡ ordered_to rs (suc r.address) (drop (i + 1) (take n ps)) = ap (λ (k : ℕ). ordered_to rs k (drop (i + 1) (take n ps))) g in
-    omega arith
-
-pub ordered-none : (rs : List Record) (ps : List ℕ) (n i least : ℕ) → n ≤ i → ordered_to rs least (drop i (take n ps)) ≡ 0
-unfolding ordered_to
-ordered-none rs ps n i least h = ap (ordered_to rs least) (rest-none ps n i h)
-
--- all are in order exactly when as many are as there are
-pub ordered-all : (rs : List Record) (least : ℕ) (qs : List ℕ) → (in_order rs least qs ≡ true → ordered_to rs least qs ≡ length qs) × (ordered_to rs least qs ≡ length qs → in_order rs least qs ≡ true)
-unfolding ordered_to in_order
-ordered-all rs least [] = ((λ e. refl), λ e. refl)
-ordered-all rs least (q ∷ qs) = by (is_next least (record_at rs q)) (ordered-all rs (suc (address_at rs q)) qs)
-  where
-    by : (b : Bool) → (in_order rs (suc (address_at rs q)) qs ≡ true → ordered_to rs (suc (address_at rs q)) qs ≡ length qs) × (ordered_to rs (suc (address_at rs q)) qs ≡ length qs → in_order rs (suc (address_at rs q)) qs ≡ true)
-        → ((b && in_order rs (suc (address_at rs q)) qs) ≡ true → cond b (suc (ordered_to rs (suc (address_at rs q)) qs)) 0 ≡ suc (length qs)) × (cond b (suc (ordered_to rs (suc (address_at rs q)) qs)) 0 ≡ suc (length qs) → (b && in_order rs (suc (address_at rs q)) qs) ≡ true)
-    by true h = ((λ e. ap suc (h.0 e)), λ e. h.1 (omega (arith, e)))
-    by false h = ((λ e. absurd (never e refl)), λ e. absurd (omega (arith, e)))
+pub order_ends : (rs : List Record) (least i : ℕ) (qs : List ℕ) → length qs ≤ i → in_order rs least (drop i qs) ≡ true
+unfolding in_order
+order_ends rs least i qs h = ap (in_order rs least) (drop_all i qs h)
 
 -- ---- the search
 
@@ -205,25 +159,3 @@ below-count rs a n ps = le_trans (below-le rs a (take n ps)) (length-take-at n p
     length-take-at zero ps = omega arith
     length-take-at (suc n) [] = omega arith
     length-take-at (suc n) (p ∷ ps) = omega (arith, length-take-at n ps)
-
--- a turn of the halving keeps the answer between its two ends, which come nearer
-pub halve : (rs : List Record) (ps : List ℕ) (n a low high middle low' high' : ℕ) (r : Record)
-    → n ≤ length ps → in_order rs 0 (take n ps) ≡ true → high ≤ n → low ≤ below rs a (take n ps) → below rs a (take n ps) ≤ high → low ≤ middle → middle < high
-    → r ≡ record_at rs (place_at ps middle) → low' ≡ cond (ltb r.address a) (middle + 1) low → high' ≡ cond (ltb r.address a) high middle
-    → ((high' ≤ n) × ((low' ≤ below rs a (take n ps)) × (below rs a (take n ps) ≤ high'))) × (high' - low' < high - low)
-halve rs ps n a low high middle low' high' r l e top p q m h at el eh = by (ltb r.address a) refl el eh
-  where
-    within : middle < length (take n ps)
-    within = subst (λ (k : ℕ). middle < k) (sym (length-take-le n ps l)) (omega arith)
-
-    here : address_at rs (get_or (take n ps) middle 0) ≡ r.address
-    here = ap (λ (k : ℕ). address_at rs k) (get_or-take n ps middle 0 (omega arith)) ∙ sym (ap (λ (q : Record). q.address) at)
-
-    by : (b : Bool) → ltb r.address a ≡ b → low' ≡ cond b (middle + 1) low → high' ≡ cond b high middle
-        → ((high' ≤ n) × ((low' ≤ below rs a (take n ps)) × (below rs a (take n ps) ≤ high'))) × (high' - low' < high - low)
-    by true t f g =
-        let up : middle < below rs a (take n ps) = below-after rs a 0 (take n ps) middle e within (subst (λ (k : ℕ). k < a) (sym here) (ltb-true _ _ t)) in
-        ((omega arith, (omega arith, omega arith)), omega arith)
-    by false t f g =
-        let down : below rs a (take n ps) ≤ middle = below-before rs a (take n ps) middle (subst (λ (k : ℕ). a ≤ k) (sym here) (ltb-false _ _ t)) within in
-        ((omega arith, (omega arith, omega arith)), omega arith)

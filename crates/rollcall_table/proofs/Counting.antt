@@ -102,7 +102,9 @@ unset_count rs least [] e = omega arith
 unset_count rs least (q ∷ qs) e =
     let head = order_parts rs least q qs e in
     let u : Record = unmarked (record_at rs q) in
-    let one' : live_in (set rs q u) + 1 ≡ live_in rs = less_count rs q u (next-parts least (record_at rs q) head.0).0 refl in
+    let live : (record_at rs q).live ≡ true = (next-parts least (record_at rs q) head.0).0 in
+    let was : one (record_at rs q).live ≡ 1 = ap one live in
+    let one' : live_in (set rs q u) + 1 ≡ live_in rs = omega (arith, one_set rs q u (live_within rs q live)) in
     let rest = unset_count (set rs q u) (suc (address_at rs q)) qs (order_set rs (suc (address_at rs q)) qs q u head.1 (omega arith)) in
     omega (arith, one', rest)
 

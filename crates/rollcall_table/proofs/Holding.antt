@@ -5,16 +5,14 @@ use mathlib.Core.List.{List, [], ◌∷◌}
 use Prim.Native.Nat.{ℕ, zero, suc, ◌≤◌, ◌<◌}
 use native.Mathlib.Nat.{not-suc-le-zero, le_of_suc-le-suc}
 use native.Mathlib.Omega.{arith}
-use lib.Dec.{eqb, ltb, leb}
+use lib.Dec.{eqb, ltb}
 use lib.ListN.{length, take}
 use lib.Seq.{get_or-take, length-take-le}
-use borrow.Author.Tests.{eqb-true, eqb-false, eq-eqb, ltb-true, ltb-false, lt-ltb, leb-true}
+use borrow.Author.Tests.{eqb-true, eq-eqb, ltb-true, ltb-false, lt-ltb}
 use Rattle.outcome.proofs.Laws.{never, both}
-use Rattle.message.specs.Message.{is_word}
 use Rattle.rollcall_table.specs.declared.Record.{Record}
-use Rattle.rollcall_table.specs.Table.{largest, record_at, place_at, address_at, right_lengths, Sound, live_in, in_order, is_sound, holds, holder, is_in, position}
-use Rattle.rollcall_table.specs.Checks.{ordered_to, smaller_of, is_right, verdict_of}
-use Rattle.rollcall_table.proofs.Along.{below-after, below-before, ordered-all}
+use Rattle.rollcall_table.specs.Table.{record_at, place_at, address_at, Sound, holds, holder, is_in, position}
+use Rattle.rollcall_table.proofs.Along.{below-after, below-before}
 use Rattle.rollcall_table.proofs.Counting.{live_within}
 use Rattle.rollcall_table.proofs.Soundness.{Parts, sound}
 
@@ -126,61 +124,3 @@ module _ (rs : List Record) (ps : List ℕ) (n a : ℕ) (p : Parts rs ps n) wher
           let q : place_at ps (position rs ps n a) ≡ holder rs a = ap (λ (z : ℕ). place_at ps z) at ∙ f in
           let m : position rs ps n a < n = omega arith in
           (ap (λ (b : Bool). b && holds (record_at rs (place_at ps (position rs ps n a))) a) (lt-ltb _ _ m) ∙ ap (λ (z : ℕ). holds (record_at rs z) a) q ∙ in_holds rs a e, q)
-
--- ---- the check
-
-pub smaller-le : (w n m : ℕ) → w ≡ smaller_of n m → w ≤ m
-smaller-le w n m e = by (ltb n m) refl e
-  where
-    by : (b : Bool) → ltb n m ≡ b → w ≡ cond b n m → w ≤ m
-    by true t f = omega (arith, f, ltb-true n m t)
-    by false t f = omega (arith, f)
-
--- what was counted tells whether the table is sound
-pub right_sound : (rs : List Record) (ps : List ℕ) (n w live ordered : ℕ) (right : Bool) → w ≡ smaller_of n (length ps) → ordered ≡ ordered_to rs 0 (take w ps) → live ≡ live_in rs
-    → right ≡ is_right (length rs) (length ps) n live ordered → right ≡ is_sound rs ps n
-unfolding is_sound
-right_sound rs ps n w live ordered right ew eo el er =
-    er ∙ ap (λ (k : ℕ). is_right (length rs) (length ps) n k ordered) el ∙ by (right_lengths (length rs) (length ps)) refl (leb n (length rs)) refl
-  where
-    by : (b : Bool) → right_lengths (length rs) (length ps) ≡ b → (c : Bool) → leb n (length rs) ≡ c
-        → (b && (c && (eqb (live_in rs) n && eqb ordered n))) ≡ (b && (c && (eqb (live_in rs) n && in_order rs 0 (take n ps))))
-    by false x c y = refl
-    by true x false y = refl
-    by true x true y = ap (λ (t : Bool). eqb (live_in rs) n && t) same
-      where
-        k : length rs ≡ length ps
-        k = eqb-true (length rs) (length ps) (both (eqb (length rs) (length ps)) (leb 1 (length rs) && leb (length rs) largest) x).0
-
-        few : n ≤ length ps
-        few = subst (λ (m : ℕ). n ≤ m) k (leb-true n (length rs) y)
-
-        whole : w ≡ n
-        whole = pick (ltb n (length ps)) refl ew
-          where
-            pick : (b : Bool) → ltb n (length ps) ≡ b → w ≡ cond b n (length ps) → w ≡ n
-            pick true t f = f
-            pick false t f = omega (arith, f, few, ltb-false n (length ps) t)
-
-        counted : ordered ≡ ordered_to rs 0 (take n ps)
-        counted = eo ∙ ap (λ (m : ℕ). ordered_to rs 0 (take m ps)) whole
-
-        same : eqb ordered n ≡ in_order rs 0 (take n ps)
-        same = test (in_order rs 0 (take n ps)) refl (eqb ordered n) refl
-          where
-            test : (s : Bool) → in_order rs 0 (take n ps) ≡ s → (t : Bool) → eqb ordered n ≡ t → t ≡ s
-            test true u true v = refl
-            test false u false v = refl
-            test true u false v = absurd (eqb-false ordered n v (counted ∙ (ordered-all rs 0 (take n ps)).0 u ∙ length-take-le n ps few))
-            test false u true v = absurd (never ((ordered-all rs 0 (take n ps)).1 (sym counted ∙ eqb-true ordered n v ∙ sym (length-take-le n ps few))) u)
-
--- ---- rows 3 and 8
-
--- where neither applies the word has 24 bits and the table is sound
-pub unrefused : (t : Bool) (a : ℕ) → eqb (verdict_of t a) 0 ≡ true → (is_word a ≡ true) × (t ≡ true)
-unrefused t a e = by (is_word a) refl t e
-  where
-    by : (w : Bool) → is_word a ≡ w → (t : Bool) → eqb (cond w (cond t 0 8) 3) 0 ≡ true → (w ≡ true) × (t ≡ true)
-    by true x true e = (refl, refl)
-    by true x false e = absurd (never e refl)
-    by false x t e = absurd (never e refl)

@@ -1,8 +1,8 @@
 -- The laws of the roll-call table.
-pub mod Picking
 pub mod Along
 pub mod Counting
 pub mod Soundness
+pub mod Searching
 pub mod Freeing
 pub mod Holding
 pub mod Beating

@@ -26,12 +26,12 @@ le-word a h = le-leb a 0xFFFFFF h
 
 -- ---- a list in order, entry by entry
 
-order_at : (rs : List Record) (least : ℕ) (qs : List ℕ) (k : ℕ) → in_order rs least qs ≡ true → k < length qs → ((record_at rs (get_or qs k 0)).live ≡ true) × (is_word (address_at rs (get_or qs k 0)) ≡ true)
+pub order_at : (rs : List Record) (least : ℕ) (qs : List ℕ) (k : ℕ) → in_order rs least qs ≡ true → k < length qs → ((record_at rs (get_or qs k 0)).live ≡ true) × (is_word (address_at rs (get_or qs k 0)) ≡ true)
 order_at rs least [] k e h = absurd (not-suc-le-zero h)
 order_at rs least (q ∷ qs) zero e h = let p = next-parts least (record_at rs q) (order_parts rs least q qs e).0 in (p.0, p.1.1)
 order_at rs least (q ∷ qs) (suc k) e h = order_at rs (suc (address_at rs q)) qs k (order_parts rs least q qs e).1 (le_of_suc-le-suc h)
 
-order_up : (rs : List Record) (least : ℕ) (qs : List ℕ) (j k : ℕ) → in_order rs least qs ≡ true → j < k → k < length qs → address_at rs (get_or qs j 0) < address_at rs (get_or qs k 0)
+pub order_up : (rs : List Record) (least : ℕ) (qs : List ℕ) (j k : ℕ) → in_order rs least qs ≡ true → j < k → k < length qs → address_at rs (get_or qs j 0) < address_at rs (get_or qs k 0)
 order_up rs least qs j zero e h l = absurd (not-suc-le-zero h)
 order_up rs least [] j (suc k) e h l = absurd (not-suc-le-zero l)
 order_up rs least (q ∷ qs) zero (suc k) e h l = from_least rs (suc (address_at rs q)) qs k (order_parts rs least q qs e).1 (le_of_suc-le-suc l)

@@ -2,20 +2,23 @@
 --
 -- A place is a record's number, from 0. Whether a table is sound is a relation, `Sound`, in the words of Point 4, and a test,
 -- `is_sound`, which the code makes; that the two agree is a theorem.
-use Rattle.std.specs.Prelude.{ℕ, suc, ◌+◌, ◌<◌, ◌≤◌, ◌≡◌, Bool, true, false, cond, ◌&&◌, List, [], ◌∷◌, leb, ltb, eqb, length, get_or, take}
+use Rattle.std.specs.Prelude.{ℕ, suc, ◌+◌, ◌<◌, ◌≤◌, ◌≡◌, Bool, true, false, cond, ◌&&◌, List, [], ◌∷◌, ℤ, Option, None, leb, ltb, eqb, length, get_or, take}
 use Rattle.message.specs.Message.{is_word}
 use Rattle.rollcall_table.specs.declared.Record.{Record}
 use Rattle.rollcall_table.specs.declared.Sighting.{Sighting}
-use Rattle.rollcall_table.specs.declared.Reading.TheVariants.{Missing}
 use Rattle.rollcall_table.specs.declared.Grade.TheVariants.{Clean}
 
 -- 'Make 384 the largest table length' (Point 14; it was 1000).
 abbrev pub largest : ℕ
 largest = 384
 
+-- An altitude in feet, or that there is none.
+abbrev pub Altitude : Type 0
+Altitude = Option ℤ
+
 -- What stands where there is no record.
 abbrev pub blank : Record
-blank = record { live = false; address = 0; altitude = Missing; time = 0; grade = Clean }
+blank = record { live = false; address = 0; altitude = None; time = 0; grade = Clean }
 
 abbrev pub record_at : List Record → ℕ → Record
 record_at rs i = get_or rs i blank

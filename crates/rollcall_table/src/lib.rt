@@ -1,50 +1,43 @@
-// What a roll-call table is: its records, and what is decided about single records and about the numbers that were counted along a table.
+// What a roll-call table is: its records, the table as a call lends it, and what is decided about single records and about a table that
+// is only read.
 //
-// The functions that touch a table are those of the crate rollcall. What decides is here and in rollcall_plans, by value.
+// What a call changes is decided in rollcall_plans and done in rollcall.
 #![tactic(auto)]
 
 mod records;
 mod standing;
+mod table;
 
-pub use records::{
-    address_of, after, are_wrong, blank, is_astray, is_free, is_refused, is_right, is_there,
-    lowered, raised, record_of, smaller, tally, unmarked, verdict,
-};
-pub use standing::{beats, grade_number};
+pub use records::blank;
+pub use table::{Table, check_lengths};
 
 // The largest length of a table.
 const LARGEST: usize = 384;
 
-// An altitude in feet, or that there is none.
-#[derive(Clone, Copy)]
-pub enum Reading {
-    Known(i32),
-    Missing,
-}
-
-// How a reply was received, by the sensor's answer: clean, or corrected with the mark sole or several.
-#[derive(Clone, Copy)]
+// How a reply was received, by the sensor's answer: clean, or corrected with the mark sole or several; the better first.
+#[derive(Clone, Copy, Debug, PartialEq, Eq, PartialOrd, Ord)]
 pub enum Grade {
     Clean,
     Sole,
     Several,
 }
 
-// What is held of one aircraft; the time is in milliseconds. A record that is not live may hold anything.
-#[derive(Clone, Copy)]
+// What is held of one aircraft: the altitude in feet, if there is one; the time in milliseconds. The mark stands beside the fields, and
+// not round them in an Option: a record that is not live may hold anything, and clear and remove leave in it what it held.
+#[derive(Clone, Copy, Debug, PartialEq, Eq)]
 pub struct Record {
     pub live: bool,
     pub address: u32,
-    pub altitude: Reading,
+    pub altitude: Option<i32>,
     pub time: u64,
     pub grade: Grade,
 }
 
 // A reply of an aircraft, as it is added or renewed.
-#[derive(Clone, Copy)]
+#[derive(Clone, Copy, Debug, PartialEq, Eq)]
 pub struct Sighting {
     pub address: u32,
-    pub altitude: Reading,
+    pub altitude: Option<i32>,
     pub time: u64,
     pub grade: Grade,
 }

@@ -7,13 +7,13 @@ use native.Mathlib.Nat.{lt_of_lt_of_le}
 use native.Mathlib.Omega.{arith}
 use lib.ListN.{length, take, drop}
 use lib.Seq.{drop-length}
-use lib.Pow.{pow_mono, shl_lt}
+use lib.Pow.{pow_mono, shl_lt, shl_exact}
 use Rattle.message.specs.Message.{Bytes}
 use Rattle.outcome.proofs.Laws.{part_from}
 use Rattle.message.proofs.Laws.{bytes_drop, inverted_by_number, inverted_part}
 use Rattle.windows.specs.Windows.{Starts, pattern_added}
 use Rattle.windows.proofs.Laws.{added-number, added-length, added-bytes}
-use Rattle.message.specs.Bits.{inverted}
+use Rattle.message.specs.Bits.{last_window, inverted}
 use Rattle.sensor.proofs.Marks.{window_at, window_starts, window_place, part_at}
 use borrow.Rule.Slice.PartMut.{put_mid, Post-is}
 
@@ -30,7 +30,7 @@ window_inverted p offset x hp s hx =
     (added-length p offset x) (change_lt (8 * length p) offset x hx s.1) (added-number p offset x hp s hx)
 
 -- the part with the pattern added, back in its message
-pub placed_back : (m : List ℕ) (e x : ℕ) (ys : List ℕ) → Bytes m → 3 ≤ length m → e ≤ 8 * length m - 24 → x < 2 ^ 24
+pub placed_back : (m : List ℕ) (e x : ℕ) (ys : List ℕ) → Bytes m → 3 ≤ length m → e ≤ last_window m → x < 2 ^ 24
     → ys ≡ pattern_added (part_at m e) (window_at m e % 8) x
     → put_mid (window_at m e / 8) (length m - window_at m e / 8) m ys ≡ inverted m (x * 2 ^ e)
 placed_back m e x ys hm h g hx w =
@@ -45,3 +45,7 @@ placed_back m e x ys hm h g hx w =
     ∙ ap (λ (k : ℕ). take a m ++ inverted (drop a m) (x * 2 ^ k)) place
     ∙ inverted_part a m (x * 2 ^ e) hm within
     (lt_of_lt_of_le (shl_lt 24 e hx) (pow_mono {i = 24 + e} {j = 8 * length (drop a m)} (omega arith)))
+
+-- a shift of 32 bits within 128 loses none
+pub shifted_whole : (p e : ℕ) → p < 2 ^ 32 → e < 96 → p * 2 ^ e % 2 ^ 128 ≡ p * 2 ^ e
+shifted_whole p e h g = shl_exact 32 e 128 h (omega arith)

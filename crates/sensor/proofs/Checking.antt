@@ -1,15 +1,14 @@
--- The checks of a call: what a call that no row refuses was given, and that a refusal stays one whatever the answer would be.
-use mathlib.Core.Path.{◌≡◌, refl, sym, ◌∙◌, subst}
+-- The checks of a call: what a call that no row refuses was given.
+use mathlib.Core.Path.{◌≡◌, refl, sym, subst}
 use mathlib.Core.Logic.{◌⊎◌, inl, inr}
 use mathlib.Core.Bool.{true}
 use Prim.Native.Nat.{ℕ, ◌^◌, ◌<◌, ◌≤◌}
 use native.Mathlib.Omega.{arith}
 use lib.Dec.{eqb, leb}
 use borrow.Author.Tests.{eqb-true}
-use Rattle.outcome.specs.Outcomes.{Outcome, done, Unrefused}
-use Rattle.outcome.specs.Outcomes.Outcome.{refusal}
+use Rattle.outcome.specs.Outcomes.{Outcome, Unrefused}
 use Rattle.outcome.specs.Refusals.{wrong_length, wrong_confidence_length, word_too_large, limit_too_large}
-use Rattle.outcome.proofs.Laws.{refusal_is_no_answer, passed, unless_refuses, unless_unrefused}
+use Rattle.outcome.proofs.Laws.{passed, unless_unrefused}
 use Rattle.message.specs.Message.{is_message_length, is_word}
 use Rattle.message.proofs.Laws.{word_lt, message-length}
 use Rattle.sensor.specs.Verdicts.{checked}
@@ -38,18 +37,6 @@ admitted n k w l a h =
           (passed (is_word w) word_too_large b _ third.0
           (passed (leb l 24) limit_too_large b b fourth.0 refl))));
     }
-
--- the check of the code said so
-pub check_passed : (n k w l : ℕ) → done ≡ checked n k w l done → Admitted n k w l
-check_passed n k w l e = admitted n k w l done (λ r f. refusal_is_no_answer (sym f ∙ sym e))
-
-pub refused_anyhow : (n k w l r : ℕ) (a : Outcome) → refusal r ≡ checked n k w l done → refusal r ≡ checked n k w l a
-unfolding checked
-refused_anyhow n k w l r a e =
-    unless_refuses (is_message_length n) wrong_length r _ _
-    (unless_refuses (eqb k n) wrong_confidence_length r _ _
-    (unless_refuses (is_word w) word_too_large r _ _
-    (unless_refuses (leb l 24) limit_too_large r done a (λ q. absurd (refusal_is_no_answer q))))) e
 
 -- ---- the two lengths
 

@@ -1,23 +1,25 @@
 -- The search. In the window at place e the only pattern that can make the message carry the word is the candidate: its
--- remainder there is the syndrome (`candidate_law`). And the state that the code keeps while it visits the places one
+-- remainder there is the syndrome (`candidate_law`). And the fit that the code keeps while it visits the places one
 -- after the other says which of them fit, and whether they invert the same message bits (`search_seen`).
-use mathlib.Core.Path.{◌≡◌, refl, sym, ap, ap₂, ◌∙◌, subst}
+use mathlib.Core.Path.{◌≡◌, refl, sym, ap, ◌∙◌, subst}
 use mathlib.Core.Logic.{◌⊎◌, inl, inr}
 use mathlib.Core.Bool.{Bool, true, false, cond}
-use Prim.Native.Nat.{ℕ, zero, suc, ◌+◌, ◌-◌, ◌*◌, ◌/◌, ◌^◌, ◌<◌, ◌≤◌}
-use native.Mathlib.Nat.{add-suc, add-zero, zero-add, mul-one, zero-mul, eq-or-lt_of_le, le_of_suc-le-suc, not-suc-le-zero, lt_trans, le_refl, lt_irrefl, lt_of_lt_of_le, le-suc, le_trans, le_of_eq, one-mul, mul-le-mul_right}
+use Prim.Native.Nat.{ℕ, zero, suc, ◌+◌, ◌-◌, ◌*◌, ◌^◌, ◌<◌, ◌≤◌}
+use native.Mathlib.Nat.{add-suc, add-zero, zero-add, mul-one, zero-mul, eq-or-lt_of_le, le_of_suc-le-suc, not-suc-le-zero, lt_trans, le_refl, lt_irrefl, lt_of_lt_of_le}
 use native.Mathlib.Numerals.{add-one}
 use native.Mathlib.Omega.{arith}
-use lib.Pow.{pow_mono, shl-shr}
-use lib.Dec.{eqb, lit<}
-use borrow.Author.Tests.{eqb-true, eqb-false, eq-eqb, ne_eqb}
+use lib.Dec.{eqb}
+use borrow.Author.Tests.{eqb-true, eqb-false}
 use Rattle.outcome.proofs.Laws.{never, positive}
 use Rattle.division.specs.Division.{remainder, backward}
-use Rattle.division.proofs.Laws.{remainder-zero, remainder_small, remainder-shl, backward_is, backward-lt, shl-suc, shl-shl, shl_comm}
+use Rattle.division.proofs.Laws.{remainder-zero, remainder_small, remainder-shl, backward_is, backward-lt, shl-suc, shl_comm}
 use Rattle.sensor.specs.Verdicts.{Found, first_of, highest, candidate, change_at, fits_at}
 use Rattle.sensor.specs.Verdicts.Found.{nowhere, at}
-use Rattle.sensor.specs.Searching.{is_found, or_else, Sound, counted, noted, kept, visited, search_to}
-use Rattle.sensor.specs.declared.search.Search.{Search}
+use Rattle.std.specs.Prelude.{Option, None, Some}
+use Rattle.sensor.specs.declared.Mark.{Mark}
+use Rattle.sensor.specs.declared.Mark.TheVariants.{Sole, Several}
+use Rattle.sensor.specs.Searching.{noted, fit_to}
+use Rattle.sensor.specs.declared.search.Fit.{Fit}
 
 -- ---- the candidate
 
@@ -54,6 +56,17 @@ pub highest-next : (t : ℕ → Bool) (k : ℕ) → highest t (k + 1) ≡ first_
 unfolding highest
 highest-next t k = ap (highest t) (add-one k)
 
+-- by the place below
+pub highest_hit : (t : ℕ → Bool) (k : ℕ) → 0 < k → t (k - 1) ≡ true → highest t k ≡ at (k - 1)
+highest_hit t k h e =
+    let there : k - 1 + 1 ≡ k = omega arith in
+    ap (highest t) (sym there) ∙ highest-next t (k - 1) ∙ ap (λ (b : Bool). first_of b (k - 1) (highest t (k - 1))) e
+
+pub highest_miss : (t : ℕ → Bool) (k : ℕ) → 0 < k → t (k - 1) ≡ false → highest t k ≡ highest t (k - 1)
+highest_miss t k h e =
+    let there : k - 1 + 1 ≡ k = omega arith in
+    ap (highest t) (sym there) ∙ highest-next t (k - 1) ∙ ap (λ (b : Bool). first_of b (k - 1) (highest t (k - 1))) e
+
 pub highest_past : (t : ℕ → Bool) (k n : ℕ) → ((e : ℕ) → k ≤ e → e < k + n → t e ≡ false) → highest t (k + n) ≡ highest t k
 unfolding highest
 highest_past t k zero h = ap (highest t) (add-zero k)
@@ -62,18 +75,9 @@ highest_past t k (suc n) h =
     ∙ ap (λ (b : Bool). first_of b (k + n) (highest t (k + n))) (h (k + n) (omega arith) (omega arith))
     ∙ highest_past t k n (λ e l u. h e l (omega arith))
 
--- what was found above some places, or else what is found there
-pub or_else_next : (b : Bool) (k : ℕ) (f g : Found) → or_else (first_of b k f) g ≡ first_of b k (or_else f g)
-or_else_next true k f g = refl
-or_else_next false k f g = refl
+pub ruleset going_down = (highest_past, highest_hit, highest_miss)
 
-pub found-above : (f g h : Found) → is_found f ≡ true → or_else f g ≡ h → f ≡ h
-found-above nowhere g h p e = absurd (never p refl)
-found-above (at k) g h p e = e
-
-pub none_above : (f g h : Found) → is_found f ≡ false → or_else f g ≡ h → g ≡ h
-none_above nowhere g h p e = e
-none_above (at k) g h p e = absurd (never refl p)
+pub ruleset highest_last = (highest-start, highest-next)
 
 pub highest-none : (t : ℕ → Bool) (k : ℕ) → ((e : ℕ) → e < k → t e ≡ false) → highest t k ≡ nowhere
 highest-none t k h =
@@ -88,6 +92,18 @@ highest-at t (suc k) e l p h = by (below_suc e k l) (λ q. highest-at t k e q p 
     by (inl q) lower = ap (λ (b : Bool). first_of b k (highest t k)) (ap t (sym q) ∙ p) ∙ ap at (sym q)
     by (inr q) lower = ap (λ (b : Bool). first_of b k (highest t k)) (h k q (le_refl (suc k))) ∙ lower q
 
+pub highest_below : (t : ℕ → Bool) (k e : ℕ) → at e ≡ highest t k → e < k
+unfolding highest
+highest_below t zero e h = let no : ◌≡◌ {A = Found} (at e) nowhere = h in cc
+highest_below t (suc k) e h = by (t k) refl (highest_below t k e)
+  where
+    by : (b : Bool) → t k ≡ b → (at e ≡ highest t k → e < k) → e < suc k
+    by true q lower =
+        let same : ◌≡◌ {A = Found} (at e) (at k) = h ∙ ap (λ (b : Bool). first_of b k (highest t k)) q in
+        let it : e ≡ k = cc in
+        omega arith
+    by false q lower = let there : e < k = lower (h ∙ ap (λ (b : Bool). first_of b k (highest t k)) q) in omega arith
+
 -- some place passes, so one is highest
 pub highest_some : (t : ℕ → Bool) (k e : ℕ) → e < k → t e ≡ true → (i : ℕ) × (highest t k ≡ at i)
 unfolding highest
@@ -99,64 +115,60 @@ highest_some t (suc k) e l p = by (t k) refl (below_suc e k l) (λ r. highest_so
     by false q (inl r) lower = absurd (never (sym (ap t r) ∙ p) q)
     by false q (inr r) lower = ((lower r).0, ap (λ (b : Bool). first_of b k (highest t k)) q ∙ (lower r).1)
 
--- ---- what the state says after the places below k
+-- ---- what the fit says after the places below k
 
--- its fit is the one at the highest place that fits
-pub record Top (φ : ℕ → ℕ → Bool) (s k : ℕ) (st : Search) : Type 0 where
-  pub below : st.place < k
-  pub pattern : st.pattern ≡ candidate s st.place
-  pub fits : fits_at φ s st.place ≡ true
-  pub last : (e : ℕ) → st.place < e → e < k → fits_at φ s e ≡ false
+-- it is the one at the highest place that fits
+pub record Top (φ : ℕ → ℕ → Bool) (s k : ℕ) (f : Fit) : Type 0 where
+  pub below : f.place < k
+  pub pattern : f.pattern ≡ candidate s f.place
+  pub fits : fits_at φ s f.place ≡ true
+  pub last : (e : ℕ) → f.place < e → e < k → fits_at φ s e ≡ false
 
-pub data Seen (φ : ℕ → ℕ → Bool) (s k : ℕ) (st : Search) : Type 0 where
-  none : st.changes ≡ 0 → ((e : ℕ) → e < k → fits_at φ s e ≡ false) → Seen φ s k st
-  one : st.changes ≡ 1 → Top φ s k st → ((e : ℕ) → e < k → fits_at φ s e ≡ true → change_at s e ≡ change_at s st.place) → Seen φ s k st
-  many : st.changes ≡ 2 → Top φ s k st → (e : ℕ) → e < k → fits_at φ s e ≡ true → (change_at s e ≡ change_at s st.place → ⊥) → Seen φ s k st
+pub data Seen (φ : ℕ → ℕ → Bool) (s k : ℕ) (r : Option Fit) : Type 0 where
+  none : r ≡ None → ((e : ℕ) → e < k → fits_at φ s e ≡ false) → Seen φ s k r
+  one : (f : Fit) → r ≡ Some f → f.mark ≡ Sole → Top φ s k f → ((e : ℕ) → e < k → fits_at φ s e ≡ true → change_at s e ≡ change_at s f.place) → Seen φ s k r
+  many : (f : Fit) → r ≡ Some f → f.mark ≡ Several → Top φ s k f → (e : ℕ) → e < k → fits_at φ s e ≡ true → (change_at s e ≡ change_at s f.place → ⊥) → Seen φ s k r
 
--- the state with another candidate, and the rest from a second state
-abbrev moved : Search → ℕ → Search
-moved st n = record { candidate = n; changes = st.changes; place = st.place; pattern = st.pattern }
-
-higher : (φ : ℕ → ℕ → Bool) (s k : ℕ) (st : Search) (n : ℕ) → fits_at φ s k ≡ false → Top φ s k st → Top φ s (suc k) (moved st n)
-higher φ s k st n f t = record { below = lt_trans t.below (le_refl (suc k)); pattern = t.pattern; fits = t.fits; last = more }
+higher : (φ : ℕ → ℕ → Bool) (s k : ℕ) (f : Fit) → fits_at φ s k ≡ false → Top φ s k f → Top φ s (suc k) f
+higher φ s k f g t = record { below = lt_trans t.below (le_refl (suc k)); pattern = t.pattern; fits = t.fits; last = more }
   where
-    more : (e : ℕ) → st.place < e → e < suc k → fits_at φ s e ≡ false
+    more : (e : ℕ) → f.place < e → e < suc k → fits_at φ s e ≡ false
     more e a l = by (below_suc e k l)
       where
         by : (e ≡ k) ⊎ (e < k) → fits_at φ s e ≡ false
-        by (inl q) = ap (fits_at φ s) q ∙ f
+        by (inl q) = ap (fits_at φ s) q ∙ g
         by (inr q) = t.last e a q
 
 -- a place that does not fit changes nothing
-passed_by : (φ : ℕ → ℕ → Bool) (s k : ℕ) (st : Search) (n : ℕ) → fits_at φ s k ≡ false → Seen φ s k st → Seen φ s (suc k) (moved st n)
-passed_by φ s k st n f (none z h) = none z more
+passed_by : (φ : ℕ → ℕ → Bool) (s k : ℕ) (r : Option Fit) → fits_at φ s k ≡ false → Seen φ s k r → Seen φ s (suc k) r
+passed_by φ s k r g (none z h) = none z more
   where
     more : (e : ℕ) → e < suc k → fits_at φ s e ≡ false
     more e l = by (below_suc e k l)
       where
         by : (e ≡ k) ⊎ (e < k) → fits_at φ s e ≡ false
-        by (inl q) = ap (fits_at φ s) q ∙ f
+        by (inl q) = ap (fits_at φ s) q ∙ g
         by (inr q) = h e q
-passed_by φ s k st n f (one z t h) = one z (higher φ s k st n f t) more
+passed_by φ s k r g (one f z m t h) = one f z m (higher φ s k f g t) more
   where
-    more : (e : ℕ) → e < suc k → fits_at φ s e ≡ true → change_at s e ≡ change_at s st.place
+    more : (e : ℕ) → e < suc k → fits_at φ s e ≡ true → change_at s e ≡ change_at s f.place
     more e l p = by (below_suc e k l)
       where
-        by : (e ≡ k) ⊎ (e < k) → change_at s e ≡ change_at s st.place
-        by (inl q) = absurd (never (sym (ap (fits_at φ s) q) ∙ p) f)
+        by : (e ≡ k) ⊎ (e < k) → change_at s e ≡ change_at s f.place
+        by (inl q) = absurd (never (sym (ap (fits_at φ s) q) ∙ p) g)
         by (inr q) = h e q p
-passed_by φ s k st n f (many z t e l p d) = many z (higher φ s k st n f t) e (lt_trans l (le_refl (suc k))) p d
+passed_by φ s k r g (many f z m t e l p d) = many f z m (higher φ s k f g t) e (lt_trans l (le_refl (suc k))) p d
 
--- the state after a fit at place k
-abbrev after : ℕ → ℕ → ℕ → ℕ → Search
-after k p n changes = record { candidate = n; changes = changes; place = k; pattern = p }
+-- a fit at place k, with a mark
+abbrev here : ℕ → ℕ → Mark → Fit
+here s k m = record { mark = m; place = k; pattern = candidate s k }
 
-top : (φ : ℕ → ℕ → Bool) (s k n changes : ℕ) → fits_at φ s k ≡ true → Top φ s (suc k) (after k (candidate s k) n changes)
-top φ s k n changes f =
-    record { below = le_refl (suc k); pattern = refl; fits = f; last = λ e a l. absurd (lt_irrefl k (lt_of_lt_of_le a (le_of_suc-le-suc l))) }
+top : (φ : ℕ → ℕ → Bool) (s k : ℕ) (m : Mark) → fits_at φ s k ≡ true → Top φ s (suc k) (here s k m)
+top φ s k m g =
+    record { below = le_refl (suc k); pattern = refl; fits = g; last = λ e a l. absurd (lt_irrefl k (lt_of_lt_of_le a (le_of_suc-le-suc l))) }
 
-first_fit : (φ : ℕ → ℕ → Bool) (s k n : ℕ) → fits_at φ s k ≡ true → ((e : ℕ) → e < k → fits_at φ s e ≡ false) → Seen φ s (suc k) (after k (candidate s k) n 1)
-first_fit φ s k n f h = one refl (top φ s k n 1 f) more
+first_fit : (φ : ℕ → ℕ → Bool) (s k : ℕ) → fits_at φ s k ≡ true → ((e : ℕ) → e < k → fits_at φ s e ≡ false) → Seen φ s (suc k) (Some (here s k Sole))
+first_fit φ s k g h = one (here s k Sole) refl refl (top φ s k Sole g) more
   where
     more : (e : ℕ) → e < suc k → fits_at φ s e ≡ true → change_at s e ≡ change_at s k
     more e l p = by (below_suc e k l)
@@ -165,142 +177,88 @@ first_fit φ s k n f h = one refl (top φ s k n 1 f) more
         by (inl q) = ap (change_at s) q
         by (inr q) = absurd (never p (h e q))
 
-same_fit : (φ : ℕ → ℕ → Bool) (s k n q : ℕ) → fits_at φ s k ≡ true → change_at s q ≡ change_at s k
-    → ((e : ℕ) → e < k → fits_at φ s e ≡ true → change_at s e ≡ change_at s q) → Seen φ s (suc k) (after k (candidate s k) n 1)
-same_fit φ s k n q f g h = one refl (top φ s k n 1 f) more
+same_fit : (φ : ℕ → ℕ → Bool) (s k q : ℕ) → fits_at φ s k ≡ true → change_at s q ≡ change_at s k
+    → ((e : ℕ) → e < k → fits_at φ s e ≡ true → change_at s e ≡ change_at s q) → Seen φ s (suc k) (Some (here s k Sole))
+same_fit φ s k q g same h = one (here s k Sole) refl refl (top φ s k Sole g) more
   where
     more : (e : ℕ) → e < suc k → fits_at φ s e ≡ true → change_at s e ≡ change_at s k
     more e l p = by (below_suc e k l)
       where
         by : (e ≡ k) ⊎ (e < k) → change_at s e ≡ change_at s k
         by (inl r) = ap (change_at s) r
-        by (inr r) = h e r p ∙ g
+        by (inr r) = h e r p ∙ same
 
-other_fit : (φ : ℕ → ℕ → Bool) (s k n q : ℕ) → fits_at φ s k ≡ true → q < k → fits_at φ s q ≡ true → (change_at s q ≡ change_at s k → ⊥)
-    → Seen φ s (suc k) (after k (candidate s k) n 2)
-other_fit φ s k n q f l p d = many refl (top φ s k n 2 f) q (lt_trans l (le_refl (suc k))) p d
+other_fit : (φ : ℕ → ℕ → Bool) (s k q : ℕ) → fits_at φ s k ≡ true → q < k → fits_at φ s q ≡ true → (change_at s q ≡ change_at s k → ⊥)
+    → Seen φ s (suc k) (Some (here s k Several))
+other_fit φ s k q g l p d = many (here s k Several) refl refl (top φ s k Several g) q (lt_trans l (le_refl (suc k))) p d
 
 -- a fit at place k, by what was seen before
-fit_more : (φ : ℕ → ℕ → Bool) (s k : ℕ) (st : Search) (n : ℕ) → fits_at φ s k ≡ true → st.candidate ≡ candidate s k → Seen φ s k st
-    → Seen φ s (suc k) (after k (candidate s k) n (counted st k))
+fit_more : (φ : ℕ → ℕ → Bool) (s k : ℕ) (r : Option Fit) → fits_at φ s k ≡ true → Seen φ s k r → Seen φ s (suc k) (Some (noted r (candidate s k) k))
 unfolding change_at
-fit_more φ s k st n f e (none z h) =
-    subst (λ (m : ℕ). Seen φ s (suc k) (after k (candidate s k) n m))
-    (sym (ap (λ (b : Bool). cond b 1 (cond (eqb (st.pattern * 2 ^ st.place) (st.candidate * 2 ^ k)) st.changes 2)) (eq-eqb st.changes 0 z)))
-    (first_fit φ s k n f h)
-fit_more φ s k st n f e (one z t h) = by (eqb (st.pattern * 2 ^ st.place) (st.candidate * 2 ^ k)) refl
+fit_more φ s k r g (none z h) =
+    subst (λ (x : Option Fit). Seen φ s (suc k) (Some (noted x (candidate s k) k))) (sym z) (first_fit φ s k g h)
+fit_more φ s k r g (one f z m t h) =
+    subst (λ (x : Option Fit). Seen φ s (suc k) (Some (noted x (candidate s k) k))) (sym z) (by (eqb (f.pattern * 2 ^ f.place) (candidate s k * 2 ^ k)) refl)
   where
-    here : st.pattern * 2 ^ st.place ≡ change_at s st.place
-    here = ap (λ (p : ℕ). p * 2 ^ st.place) t.pattern
+    same : f.pattern * 2 ^ f.place ≡ change_at s f.place
+    same = ap (λ (p : ℕ). p * 2 ^ f.place) t.pattern
 
-    there : st.candidate * 2 ^ k ≡ change_at s k
-    there = ap (λ (p : ℕ). p * 2 ^ k) e
-
-    count : (b : Bool) → eqb (st.pattern * 2 ^ st.place) (st.candidate * 2 ^ k) ≡ b → counted st k ≡ cond b 1 2
-    count b q =
-        ap₂ (λ (u v : Bool). cond u 1 (cond v st.changes 2)) (ap (λ (m : ℕ). eqb m 0) z) q
-        ∙ ap (λ (m : ℕ). cond b m 2) z
-
-    by : (b : Bool) → eqb (st.pattern * 2 ^ st.place) (st.candidate * 2 ^ k) ≡ b → Seen φ s (suc k) (after k (candidate s k) n (counted st k))
+    by : (b : Bool) → eqb (f.pattern * 2 ^ f.place) (candidate s k * 2 ^ k) ≡ b → Seen φ s (suc k) (Some (noted (Some f) (candidate s k) k))
     by true q =
-        subst (λ (m : ℕ). Seen φ s (suc k) (after k (candidate s k) n m)) (sym (count true q))
-        (same_fit φ s k n st.place f (sym here ∙ eqb-true (st.pattern * 2 ^ st.place) (st.candidate * 2 ^ k) q ∙ there) h)
+        subst (λ (n : Mark). Seen φ s (suc k) (Some (here s k n))) (sym (ap (λ (b : Bool). cond b f.mark Several) q ∙ m))
+        (same_fit φ s k f.place g (sym same ∙ eqb-true (f.pattern * 2 ^ f.place) (candidate s k * 2 ^ k) q) h)
     by false q =
-        subst (λ (m : ℕ). Seen φ s (suc k) (after k (candidate s k) n m)) (sym (count false q))
-        (other_fit φ s k n st.place f t.below t.fits
-        (λ p. eqb-false (st.pattern * 2 ^ st.place) (st.candidate * 2 ^ k) q (here ∙ p ∙ sym there)))
-fit_more φ s k st n f e (many z t i l p d) = by (eqb (change_at s i) (change_at s k)) refl
+        subst (λ (n : Mark). Seen φ s (suc k) (Some (here s k n))) (sym (ap (λ (b : Bool). cond b f.mark Several) q))
+        (other_fit φ s k f.place g t.below t.fits (λ p. eqb-false (f.pattern * 2 ^ f.place) (candidate s k * 2 ^ k) q (same ∙ p)))
+fit_more φ s k r g (many f z m t i l p d) =
+    subst (λ (x : Option Fit). Seen φ s (suc k) (Some (noted x (candidate s k) k))) (sym z)
+    (subst (λ (n : Mark). Seen φ s (suc k) (Some (here s k n))) (sym (several (eqb (f.pattern * 2 ^ f.place) (candidate s k * 2 ^ k)))) (by (eqb (change_at s i) (change_at s k)) refl))
   where
-    count : (b : Bool) → eqb (st.pattern * 2 ^ st.place) (st.candidate * 2 ^ k) ≡ b → counted st k ≡ 2
-    count true q = ap₂ (λ (u v : Bool). cond u 1 (cond v st.changes 2)) (ap (λ (m : ℕ). eqb m 0) z) q ∙ z
-    count false q = ap₂ (λ (u v : Bool). cond u 1 (cond v st.changes 2)) (ap (λ (m : ℕ). eqb m 0) z) q
+    several : (b : Bool) → cond b f.mark Several ≡ Several
+    several true = m
+    several false = refl
 
-    two : Seen φ s (suc k) (after k (candidate s k) n 2) → Seen φ s (suc k) (after k (candidate s k) n (counted st k))
-    two seen =
-        subst (λ (m : ℕ). Seen φ s (suc k) (after k (candidate s k) n m))
-        (sym (count (eqb (st.pattern * 2 ^ st.place) (st.candidate * 2 ^ k)) refl)) seen
+    by : (b : Bool) → eqb (change_at s i) (change_at s k) ≡ b → Seen φ s (suc k) (Some (here s k Several))
+    by true q = other_fit φ s k f.place g t.below t.fits (λ r. d (eqb-true (change_at s i) (change_at s k) q ∙ sym r))
+    by false q = other_fit φ s k i g l p (eqb-false (change_at s i) (change_at s k) q)
 
-    by : (b : Bool) → eqb (change_at s i) (change_at s k) ≡ b → Seen φ s (suc k) (after k (candidate s k) n (counted st k))
-    by true q =
-        two (other_fit φ s k n st.place f t.below t.fits (λ r. d (eqb-true (change_at s i) (change_at s k) q ∙ sym r)))
-    by false q = two (other_fit φ s k n i f l p (eqb-false (change_at s i) (change_at s k) q))
-
-seen_next : (φ : ℕ → ℕ → Bool) (s k : ℕ) (st : Search) → st.candidate ≡ candidate s k → Seen φ s k st → Seen φ s (suc k) (visited φ st k)
-unfolding visited noted fits_at
-seen_next φ s k st e seen = by (fits_at φ s k) refl
-  where
-    n : ℕ
-    n = backward st.candidate
-
-    state : Bool → Search
-    state b = moved (kept st b k) n
-
-    test : φ k st.candidate ≡ fits_at φ s k
-    test = ap (φ k) e
-
-    by : (b : Bool) → fits_at φ s k ≡ b → Seen φ s (suc k) (visited φ st k)
-    by true f =
-        subst (λ (b : Bool). Seen φ s (suc k) (state b)) (sym (test ∙ f))
-        (subst (λ (p : ℕ). Seen φ s (suc k) (after k p n (counted st k))) (sym e) (fit_more φ s k st n f e seen))
-    by false f = subst (λ (b : Bool). Seen φ s (suc k) (state b)) (sym (test ∙ f)) (passed_by φ s k st n f seen)
-
-pub search-start : (φ : ℕ → ℕ → Bool) (s : ℕ) → ◌≡◌ {A = Search} (record { candidate = s; changes = 0; place = 0; pattern = 0 }) (search_to φ s 0)
-unfolding search_to
-search-start φ s = refl
-
-pub search-next : (φ : ℕ → ℕ → Bool) (s k : ℕ) → search_to φ s (k + 1) ≡ visited φ (search_to φ s k) k
-unfolding search_to
-search-next φ s k = ap (search_to φ s) (add-one k)
-
-pub search-candidate : (φ : ℕ → ℕ → Bool) (s k : ℕ) → (search_to φ s k).candidate ≡ candidate s k
-unfolding search_to visited candidate
-search-candidate φ s zero = refl
-search-candidate φ s (suc k) = ap backward (search-candidate φ s k)
-
-pub search_seen : (φ : ℕ → ℕ → Bool) (s k : ℕ) → Seen φ s k (search_to φ s k)
-unfolding search_to
+pub search_seen : (φ : ℕ → ℕ → Bool) (s k : ℕ) → Seen φ s k (fit_to φ s k)
+unfolding fit_to
 search_seen φ s zero = none refl (λ e l. absurd (not-suc-le-zero l))
-search_seen φ s (suc k) = seen_next φ s k (search_to φ s k) (search-candidate φ s k) (search_seen φ s k)
-
--- ---- the numbers of the state are in range
-
-in_range : (φ : ℕ → ℕ → Bool) (s k : ℕ) → s < 2 ^ 24 → ((search_to φ s k).place ≤ k) × ((search_to φ s k).pattern < 2 ^ 24)
-unfolding search_to visited noted
-in_range φ s zero h = (le_refl 0, lit< tt)
-in_range φ s (suc k) h = by (φ k st.candidate) (in_range φ s k h)
+search_seen φ s (suc k) = by (fits_at φ s k) refl (search_seen φ s k)
   where
-    st : Search
-    st = search_to φ s k
+    by : (b : Bool) → fits_at φ s k ≡ b → Seen φ s k (fit_to φ s k) → Seen φ s (suc k) (cond (fits_at φ s k) (Some (noted (fit_to φ s k) (candidate s k) k)) (fit_to φ s k))
+    by true q seen =
+        subst (λ (b : Bool). Seen φ s (suc k) (cond b (Some (noted (fit_to φ s k) (candidate s k) k)) (fit_to φ s k))) (sym q)
+        (fit_more φ s k (fit_to φ s k) q seen)
+    by false q seen =
+        subst (λ (b : Bool). Seen φ s (suc k) (cond b (Some (noted (fit_to φ s k) (candidate s k) k)) (fit_to φ s k))) (sym q)
+        (passed_by φ s k (fit_to φ s k) q seen)
 
-    by : (b : Bool) → (st.place ≤ k) × (st.pattern < 2 ^ 24) → ((kept st b k).place ≤ suc k) × ((kept st b k).pattern < 2 ^ 24)
-    by true r = (le-suc k, subst (λ (p : ℕ). p < 2 ^ 24) (sym (search-candidate φ s k)) (candidate-lt s k h))
-    by false r = (omega arith, r.1)
+pub fit-start : (φ : ℕ → ℕ → Bool) (s : ℕ) → fit_to φ s 0 ≡ None
+unfolding fit_to
+fit-start φ s = refl
 
-pub search_sound : (φ : ℕ → ℕ → Bool) (s k : ℕ) → 0 < s → s < 2 ^ 24 → Sound (search_to φ s k) k
-unfolding Sound
-search_sound φ s k p h = (
-  (
-    subst (λ (n : ℕ). 0 < n) (sym (search-candidate φ s k)) (candidate_pos s k p h),
-    subst (λ (n : ℕ). n < 2 ^ 24) (sym (search-candidate φ s k)) (candidate-lt s k h),
-  ),
-  in_range φ s k h,
-)
+pub fit-next : (φ : ℕ → ℕ → Bool) (s k : ℕ) → fit_to φ s (k + 1) ≡ cond (φ k (candidate s k)) (Some (noted (fit_to φ s k) (candidate s k) k)) (fit_to φ s k)
+unfolding fit_to fits_at
+fit-next φ s k = ap (fit_to φ s) (add-one k)
 
--- ---- two patterns at two places are the same message bits
-
-pub same_bits : (p q a b : ℕ) → a ≤ b → eqb p (q * 2 ^ (b - a)) ≡ eqb (p * 2 ^ a) (q * 2 ^ b)
-same_bits p q a b h = by (eqb p (q * 2 ^ (b - a))) refl
+-- the fit so far is at a place that was passed
+pub fit_below : (φ : ℕ → ℕ → Bool) (s k : ℕ) (f : Fit) → fit_to φ s k ≡ Some f → f.place < k
+fit_below φ s k f e = by (search_seen φ s k)
   where
-    whole : q * 2 ^ (b - a) * 2 ^ a ≡ q * 2 ^ b
-    whole = let sum : b - a + a ≡ b = omega arith in shl-shl q (b - a) a ∙ ap (λ (k : ℕ). q * 2 ^ k) sum
+    by : Seen φ s k (fit_to φ s k) → f.place < k
+    by (none z h) = let no : ◌≡◌ {A = Option Fit} None (Some f) = sym z ∙ e in cc
+    by (one g z m t h) = let same : ◌≡◌ {A = Option Fit} (Some g) (Some f) = sym z ∙ e in let it : g ≡ f = cc in subst (λ (x : Fit). x.place < k) it t.below
+    by (many g z m t i l p d) = let same : ◌≡◌ {A = Option Fit} (Some g) (Some f) = sym z ∙ e in let it : g ≡ f = cc in subst (λ (x : Fit). x.place < k) it t.below
 
-    by : (t : Bool) → eqb p (q * 2 ^ (b - a)) ≡ t → t ≡ eqb (p * 2 ^ a) (q * 2 ^ b)
-    by true e = sym (eq-eqb (p * 2 ^ a) (q * 2 ^ b) (ap (λ (n : ℕ). n * 2 ^ a) (eqb-true p (q * 2 ^ (b - a)) e) ∙ whole))
-    by false e =
-        sym (ne_eqb (p * 2 ^ a) (q * 2 ^ b) (λ r. eqb-false p (q * 2 ^ (b - a)) e (sym (shl-shr p a) ∙ ap (λ (n : ℕ). n / 2 ^ a) (r ∙ sym whole) ∙ shl-shr (q * 2 ^ (b - a)) a)))
+pub candidate-start : (s : ℕ) → s ≡ candidate s 0
+unfolding candidate
+candidate-start s = refl
 
-pub far_apart : (p q a b : ℕ) → a ≤ b → 24 ≤ b - a → p < 2 ^ 24 → 0 < q → false ≡ eqb (p * 2 ^ a) (q * 2 ^ b)
-far_apart p q a b h far hp hq = sym (ne_eqb p (q * 2 ^ (b - a)) (λ r. lt_irrefl p (lt_of_lt_of_le hp (subst (λ (n : ℕ). 2 ^ 24 ≤ n) (sym r) large)))) ∙ same_bits p q a b h
-  where
-    large : 2 ^ 24 ≤ q * 2 ^ (b - a)
-    large = le_trans (pow_mono {i = 24} {j = b - a} far) (le_trans (le_of_eq (sym (one-mul (2 ^ (b - a))))) (mul-le-mul_right (2 ^ (b - a)) hq))
+pub candidate-next : (s k : ℕ) → candidate s (k + 1) ≡ backward (candidate s k)
+unfolding candidate
+candidate-next s k = ap (candidate s) (add-one k)
+
+-- what the loop of the search needs
+pub ruleset searching = (fit-start, fit-next, fit_below, candidate-start, candidate-next, candidate-lt)

@@ -4,11 +4,12 @@
 -- The search goes by places: the last window is place 0, the window before it place 1, and so on, so the lowest window is
 -- the highest place. In each window one pattern at most makes the message carry the word: the syndrome divided by x once
 -- for each place. What a pattern must pass at a place is one definition, `passes`; all else holds of any such test.
-use Rattle.std.specs.Prelude.{ℕ, zero, suc, ◌-◌, ◌*◌, ◌^◌, List, [], ◌∷◌, Bool, true, false, not, ◌&&◌, eqb, ltb, leb, length}
+use Rattle.std.specs.Prelude.{ℕ, zero, suc, ◌-◌, ◌*◌, ◌^◌, List, [], ◌∷◌, Bool, true, false, not, ◌&&◌, eqb, ltb, leb, length, Result}
 use Rattle.std.specs.Int.Bits.{bit_and, bit_xor}
 use Rattle.std.specs.Int.Count.{ones}
-use Rattle.outcome.specs.Outcomes.{Outcome, unless, left}
-use Rattle.outcome.specs.Outcomes.Outcome.{refusal, answer}
+use Rattle.outcome.specs.Outcomes.{Outcome, unless, left, said_by}
+use Rattle.outcome.specs.Outcomes.Outcome.{answer}
+use Rattle.outcome.specs.declared.Refusal.{Refusal}
 use Rattle.outcome.specs.Refusals.{wrong_length, wrong_confidence_length, word_too_large, limit_too_large}
 use Rattle.division.specs.Division.{remainder, backward}
 use Rattle.message.specs.Message.{number, first_bit_agrees, is_message_length, is_word}
@@ -17,7 +18,7 @@ use Rattle.sensor.specs.Changes.{marks_at}
 use Rattle.sensor.specs.declared.Mark.{Mark}
 use Rattle.sensor.specs.declared.Mark.TheVariants.{Sole, Several}
 use Rattle.sensor.specs.declared.Verdict.{Verdict}
-use Rattle.sensor.specs.declared.Verdict.TheVariants.{Clean, Dense, NoFit, Corrected, Refused}
+use Rattle.sensor.specs.declared.Verdict.TheVariants.{Clean, Dense, NoFit, Corrected}
 
 -- ---- the answers
 
@@ -41,17 +42,21 @@ no_fit_answer = answer 3 []
 abbrev pub corrected_answer : ℕ → ℕ → ℕ → Outcome
 corrected_answer window count mark = answer 4 (window ∷ count ∷ mark ∷ [])
 
--- What a Verdict says.
+-- What a Mark says.
 abbrev pub mark_of : Mark → ℕ
 mark_of Sole = sole_mark
 mark_of Several = several_mark
 
-abbrev pub said : Verdict → Outcome
-said Clean = clean_answer
-said (Dense w) = dense_answer w
-said NoFit = no_fit_answer
-said (Corrected k) = corrected_answer k.window k.bits (mark_of k.mark)
-said (Refused n) = refusal n
+-- What a Verdict says.
+abbrev pub answered : Verdict → Outcome
+answered Clean = clean_answer
+answered (Dense w) = dense_answer w
+answered NoFit = no_fit_answer
+answered (Corrected k) = corrected_answer k.window k.bits (mark_of k.mark)
+
+-- What a call says: a Verdict, or the refusal.
+abbrev pub said : Result Verdict Refusal → Outcome
+said = said_by answered
 
 -- ---- the search
 

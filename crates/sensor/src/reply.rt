@@ -1,18 +1,44 @@
-// The remainder of a reply as a number. Division answers with a remainder or a refusal; of a length that the sensor has let
-// pass, the refusal is ruled out here, so that its callers have the number alone.
-ghost use Rattle.std.specs.Prelude.{◌≡◌, true, length};
-ghost use Rattle.division.specs.Division.{remainder};
-ghost use Rattle.message.specs.Message.{number, is_message_length};
+// A reply with its confidence marks, and its windows by their places: the last window is at place 0, the window before it at 1.
+ghost use Rattle.std.specs.Prelude.{◌≤◌, ◌-◌, ◌≡◌, length};
+ghost use Rattle.message.specs.Message.{Bytes};
+ghost use Rattle.message.specs.Bits.{last_window};
+ghost use Rattle.sensor.specs.Changes.{marks_at};
 
-use division::Word;
+use windows::Window;
 
-pub(crate) fn reply_remainder(m: &[u8]) -> u32
-    requires { is_message_length (length m.now) ≡ true }
-    ensures { result ≡ remainder (number m.now) }
-{
-    let answer = division::message_remainder(m);
-    match answer {
-        Word::Value(r) => r,
-        Word::Refused(_) => 0,
+// The message and the marks: a bit 1 is a low mark.
+#[derive(Clone, Copy)]
+pub(crate) struct Reply<'a> {
+    pub message: &'a [u8],
+    pub marks: &'a [u8],
+    ghost in_bounds: { (3 ≤ length marks.now) × (length marks.now ≤ 14) },
+    ghost same_length: { length marks.now ≡ length message.now },
+    ghost message_bytes: { Bytes message.now },
+    ghost marks_bytes: { Bytes marks.now },
+}
+
+impl Reply<'_> {
+    pub(crate) fn last_window(&self) -> usize
+        ensures { result ≡ last_window self.now.marks.now }
+    {
+        8 * self.marks.len() - 24
+    }
+
+    // The number of the window at a place.
+    pub(crate) fn number_at(&self, place: usize) -> u32
+        requires { place ≤ last_window self.now.marks.now }
+        ensures { result ≡ last_window self.now.message.now - place }
+    {
+        (self.last_window() - place) as u32
+    }
+
+    // The low marks of the window at a place, read from its first byte on.
+    #[tactic(auto, using(crate::proofs::Marks::marks_at_lem))]
+    pub(crate) fn window(&self, place: usize) -> Window
+        requires { place ≤ last_window self.now.marks.now }
+        ensures { result.marks ≡ marks_at self.now.marks.now place }
+    {
+        let start = self.last_window() - place;
+        Window::within(&self.marks[start / 8..], (start % 8) as u32)
     }
 }

@@ -1,123 +1,91 @@
 -- What a segment does, by its RC and its NC: how the definitions split by their tests.
-use mathlib.Core.Path.{◌≡◌, refl, sym, ap, ◌∙◌}
+use mathlib.Core.Path.{◌≡◌, refl, sym, ap, ap₂, ◌∙◌}
 use mathlib.Core.Bool.{Bool, true, false, cond}
-use mathlib.Core.List.{List}
-use Prim.Native.Nat.{ℕ, zero, suc, ◌+◌, ◌*◌, ◌/◌, ◌%◌, ◌^◌, ◌<◌, ◌≤◌}
+use mathlib.Core.List.{List, []}
+use Prim.Native.Nat.{ℕ, ◌+◌, ◌*◌, ◌/◌, ◌%◌, ◌^◌, ◌<◌}
 use native.Mathlib.Omega.{arith}
-use lib.Dec.{eqb, leb}
-use lib.ListN.{length, get_or}
-use borrow.Author.Tests.{eqb-true, eq-eqb, ne_eqb, le-leb, lt-leb}
-use Rattle.outcome.specs.Outcomes.{Outcome, Unrefused}
+use lib.Dec.{eqb}
+use lib.ListN.{length, get_or, drop}
+use borrow.Author.Tests.{eqb-true, eq-eqb}
+use Rattle.std.specs.Prelude.{Option, Some, None, Result, Ok, Err, IsErrAnd}
+use Rattle.outcome.specs.Outcomes.{Outcome, Unrefused, admission, unless, done}
 use Rattle.outcome.specs.Outcomes.Outcome.{refusal, answer}
-use Rattle.outcome.specs.Refusals.{nothing_opened, number_above_last}
-use Rattle.outcome.proofs.Laws.{never, refusal_is_no_answer}
+use Rattle.outcome.specs.Refusals.{number_of}
+use Rattle.outcome.specs.declared.Refusal.{Refusal}
+use Rattle.outcome.proofs.Laws.{never, refusal_is_no_answer, said_by_injective, admission_injective}
 use Rattle.message.specs.Message.{number, format_number, first_bit_agrees}
 use Rattle.message.proofs.Laws.{long_by_first_bit}
 use Rattle.division.specs.Division.{address_read}
-use Rattle.transponder.specs.Receptions.{reception_of, reception_outcome, said as said_reception}
+use Rattle.transponder.specs.Receptions.{reception_of, reception_outcome, answered}
 use Rattle.transponder.specs.declared.Reception.{Reception}
 use Rattle.transponder.specs.declared.Reception.TheVariants as R
 use Rattle.transponder.proofs.Laws.{admitted}
 use Rattle.uplink_elm.specs.declared.Receiver.{Receiver}
 use Rattle.uplink_elm.specs.declared.Progress.{Progress}
 use Rattle.uplink_elm.specs.declared.Answer.{Answer}
-use Rattle.uplink_elm.specs.declared.Answer.TheVariants as A
-use Rattle.uplink_elm.specs.declared.Effect.{Effect}
-use Rattle.uplink_elm.specs.declared.Effect.TheVariants.{Refused, Nothing, Stored}
-use Rattle.uplink_elm.specs.Segments.{is_extended, reply_control, segment_number, bit_of, with_number}
-use Rattle.uplink_elm.specs.Receiving.{one, progress_of, with_progress, said, opening_effect, adding_effect, effect_of, own_effect, is_own, call_effect, receiver_of, segments_of, outcome_of, receiving_outcome, receiver_after, segments_after}
+use Rattle.uplink_elm.specs.Segments.{is_extended, reply_control, segment_number, segment, stored}
+use Rattle.uplink_elm.specs.Receiving.{Effect, one, progress_of, with_progress, said, effect_of, own_effect, is_own, call_effect, receiver_of, segments_of, outcome_of, receiving_outcome, receiver_after, segments_after}
 
--- ---- picked by a test
+-- ---- the rows of a segment
 
-pub then_is : (t : Bool) (x y z : Effect) → t ≡ true → z ≡ x → z ≡ cond t x y
-then_is t x y z e f = f ∙ sym (ap (λ (t : Bool). cond t x y) e)
+-- a row that is refused has failed its test, and the refusal is the row's
+pub row_refused : (r : Result Unit Refusal) (t : Bool) (e f : Refusal) → admission r ≡ unless t (number_of e) done → IsErrAnd r (λ d. d ≡ f)
+    → (t ≡ false) × (f ≡ e)
+row_refused (Ok u) t e f a h = absurd h
+row_refused (Err d) true e f a h = absurd (refusal_is_no_answer a)
+row_refused (Err d) false e f a h = (refl, sym h ∙ same_error (admission_injective (Err d) (Err e) a))
+  where
+    same_error : ◌≡◌ {A = Result Unit Refusal} (Err d) (Err e) → d ≡ e
+    same_error q = cc
 
-pub else_is : (t : Bool) (x y z : Effect) → t ≡ false → z ≡ y → z ≡ cond t x y
-else_is t x y z e f = f ∙ sym (ap (λ (t : Bool). cond t x y) e)
+-- what the functions need that go by those rows
+pub ruleset refusing = (row_refused)
 
--- ---- RC 0
+-- ---- what an effect makes of a call, by the transponder's answer
 
-pub opens_nothing : (n : ℕ) → n ≡ 0 → Refused nothing_opened ≡ opening_effect n
-opens_nothing n e = then_is (eqb n 0) _ _ _ (eq-eqb n 0 e) refl
-
-pub opens : (n b : ℕ) → (n ≡ 0 → ⊥) → b ≡ bit_of n → Stored (record { opened = true; last = n; held = b }) ≡ opening_effect n
-opens n b h e = else_is (eqb n 0) _ _ _ (ne_eqb n 0 h) (ap (λ (x : ℕ). Stored (record { opened = true; last = n; held = x })) e)
-
--- ---- RC 1 and RC 2
-
-module _ (n : ℕ) (r : Receiver) where
-  pub adds-unopened : r.opened ≡ false → Refused nothing_opened ≡ adding_effect n r
-  adds-unopened e = else_is r.opened _ _ _ e refl
-
-  pub adds-above : r.opened ≡ true → r.last < n → Refused number_above_last ≡ adding_effect n r
-  adds-above e h = then_is r.opened _ _ _ e (else_is (leb n r.last) _ _ _ (lt-leb n r.last h) refl)
-
-  pub adds : (b : ℕ) → r.opened ≡ true → n ≤ r.last → b ≡ with_number r.held n
-      → Stored (record { opened = true; last = r.last; held = b }) ≡ adding_effect n r
-  adds b e h f =
-      then_is r.opened _ _ _ e
-      (then_is (leb n r.last) _ _ _ (le-leb n r.last h) (ap (λ (x : ℕ). Stored (record { opened = true; last = r.last; held = x })) f))
-
--- ---- by RC
-
-pub by_opening : (c n : ℕ) (r : Receiver) → c ≡ 0 → opening_effect n ≡ effect_of c n r
-unfolding effect_of
-by_opening c n r e = ap (λ (x : ℕ). effect_of x n r) (sym e)
-
-pub by_adding : (c n : ℕ) (r : Receiver) → (c ≡ 0 → ⊥) → c < 3 → adding_effect n r ≡ effect_of c n r
-unfolding effect_of
-by_adding zero n r h l = absurd (h refl)
-by_adding (suc zero) n r h l = refl
-by_adding (suc (suc zero)) n r h l = refl
-by_adding (suc (suc (suc k))) n r h l = absurd (omega arith)
-
-pub by_nothing : (c n : ℕ) (r : Receiver) → 3 ≤ c → Nothing ≡ effect_of c n r
-unfolding effect_of
-by_nothing zero n r l = absurd (omega arith)
-by_nothing (suc zero) n r l = absurd (omega arith)
-by_nothing (suc (suc zero)) n r l = absurd (omega arith)
-by_nothing (suc (suc (suc k))) n r l = refl
-
--- ---- what an effect makes of a call
-
--- The answer x, the receiver y and the bytes t after a call with the effect e.
-abbrev pub Gives : Effect → Outcome → List ℕ → Receiver → List ℕ → Answer → Receiver → List ℕ → Type 0
-Gives e o m r s x y t = (said x ≡ outcome_of e o r) × ((y ≡ receiver_of e r) × (t ≡ segments_of e m s))
-
--- they are those of an effect equal to it
-pub gives_by : (e f : Effect) (o : Outcome) (m : List ℕ) (r : Receiver) (s : List ℕ) (x : Answer) (y : Receiver) (t : List ℕ)
-    → e ≡ f → Gives e o m r s x y t → Gives f o m r s x y t
-gives_by e f o m r s x y t p g = (
-  g.0 ∙ ap (λ (k : Effect). outcome_of k o r) p,
-  (g.1.0 ∙ ap (λ (k : Effect). receiver_of k r) p, g.1.1 ∙ ap (λ (k : Effect). segments_of k m s) p),
-)
-
--- ---- the call by the transponder's answer
-
-module _ (own : ℕ) (m : List ℕ) (r : Receiver) (s : List ℕ) (o : Outcome) (h : o ≡ reception_outcome own m) (x : Answer) (y : Receiver) (t : List ℕ) where
-  pub of-call : (e : Effect) → e ≡ call_effect own m r → Gives e o m r s x y t
-      → (said x ≡ receiving_outcome own m r) × ((y ≡ receiver_after own m r) × (t ≡ segments_after own m r s))
-  unfolding receiving_outcome receiver_after segments_after
-  of-call e p g =
-      let k = gives_by e (call_effect own m r) o m r s x y t p g in
-      (k.0 ∙ ap (λ (q : Outcome). outcome_of (call_effect own m r) q r) h, k.1)
-
-  pub own_call : is_own o ≡ true → Gives (own_effect m r) o m r s x y t
-      → (said x ≡ receiving_outcome own m r) × ((y ≡ receiver_after own m r) × (t ≡ segments_after own m r s))
+module _ (own : ℕ) (m : List ℕ) (r : Receiver) (o : Outcome) (h : o ≡ reception_outcome own m) (k : Effect)
+    (e : k ≡ cond (is_own o) (own_effect m r) (Ok None)) where
+  made : k ≡ call_effect own m r
   unfolding call_effect
-  own_call e = of-call (own_effect m r) (then_is (is_own (reception_outcome own m)) _ _ _ (ap is_own (sym h) ∙ e) refl)
+  made = e ∙ ap (λ (q : Outcome). cond (is_own q) (own_effect m r) (Ok None)) h
 
-  pub other-call : is_own o ≡ false → Gives Nothing o m r s x y t
-      → (said x ≡ receiving_outcome own m r) × ((y ≡ receiver_after own m r) × (t ≡ segments_after own m r s))
-  unfolding call_effect
-  other-call e = of-call Nothing (else_is (is_own (reception_outcome own m)) _ _ _ (ap is_own (sym h) ∙ e) refl)
+  pub call_outcome : outcome_of k o r ≡ receiving_outcome own m r
+  unfolding receiving_outcome
+  call_outcome = ap₂ (λ (x : Effect) (q : Outcome). outcome_of x q r) made h
+
+  pub call_receiver : receiver_of k r ≡ receiver_after own m r
+  unfolding receiver_after
+  call_receiver = ap (λ (x : Effect). receiver_of x r) made
+
+  pub call_segments : (s : List ℕ) → segments_of k m s ≡ segments_after own m r s
+  unfolding segments_after
+  call_segments s = ap (λ (x : Effect). segments_of x m s) made
+
+-- a call that is not refused: the receiver that it leaves, and the answer with its progress
+pub stores_next : (n : Option Receiver) (next r x : Receiver) (m s t : List ℕ) → n ≡ Some next → x ≡ next → t ≡ stored (segment_number m) (segment m) s
+    → (x ≡ receiver_of (Ok n) r) × (t ≡ segments_of (Ok n) m s)
+stores_next None next r x m s t p e f = absurd (cc)
+stores_next (Some k) next r x m s t p e f = (cc, f)
+
+pub stores_nothing : (n : Option Receiver) (r x : Receiver) (m s t : List ℕ) → ((next : Receiver) → n ≡ Some next → ⊥) → x ≡ r → t ≡ s
+    → (x ≡ receiver_of (Ok n) r) × (t ≡ segments_of (Ok n) m s)
+stores_nothing None r x m s t h e f = (e, f)
+stores_nothing (Some k) r x m s t h e f = absurd (h k refl)
+
+pub with_next : (n : Option Receiver) (o : Outcome) (r x : Receiver) (p : Progress) → x ≡ receiver_of (Ok n) r → p ≡ progress_of x
+    → with_progress o p ≡ outcome_of (Ok n) o r
+with_next n o r x p e f = ap (with_progress o) (f ∙ ap (λ (y : Receiver). progress_of y) e) ∙ by n
+  where
+    by : (k : Option Receiver) → with_progress o (progress_of (receiver_of (Ok k) r)) ≡ outcome_of (Ok k) o r
+    by None = refl
+    by (Some next) = refl
 
 -- an answer other than 'own' leaves the receiver and the bytes
 pub other_leaves : (own : ℕ) (m : List ℕ) (r : Receiver) (s : List ℕ) → is_own (reception_outcome own m) ≡ false
     → (receiving_outcome own m r ≡ with_progress (reception_outcome own m) (progress_of r)) × (receiver_after own m r ≡ r) × (segments_after own m r s ≡ s)
 unfolding receiving_outcome receiver_after segments_after call_effect
 other_leaves own m r s e =
-    let nothing : call_effect own m r ≡ Nothing = ap (λ (t : Bool). cond t (own_effect m r) Nothing) e in (
+    let nothing : call_effect own m r ≡ Ok None = ap (λ (t : Bool). cond t (own_effect m r) (Ok None)) e in (
       ap (λ (k : Effect). outcome_of k (reception_outcome own m) r) nothing,
       ap (λ (k : Effect). receiver_of k r) nothing,
       ap (λ (k : Effect). segments_of k m s) nothing,
@@ -126,45 +94,41 @@ other_leaves own m r s e =
 -- so does a refusal
 refused_effect : (k : Effect) (j : ℕ) (vs m : List ℕ) (r : Receiver) (s : List ℕ) (n : ℕ) → outcome_of k (answer j vs) r ≡ refusal n
     → (receiver_of k r ≡ r) × (segments_of k m s ≡ s)
-refused_effect (Refused i) j vs m r s n e = (refl, refl)
-refused_effect Nothing j vs m r s n e = (refl, refl)
-refused_effect (Stored next) j vs m r s n e = absurd (refusal_is_no_answer (sym e))
+refused_effect (Err i) j vs m r s n e = (refl, refl)
+refused_effect (Ok None) j vs m r s n e = (refl, refl)
+refused_effect (Ok (Some next)) j vs m r s n e = absurd (refusal_is_no_answer (sym e))
 
 pub refused_leaves : (own : ℕ) (m : List ℕ) (r : Receiver) (s : List ℕ) (n : ℕ) → receiving_outcome own m r ≡ refusal n
     → (receiver_after own m r ≡ r) × (segments_after own m r s ≡ s)
 unfolding receiving_outcome receiver_after segments_after call_effect
 refused_leaves own m r s n e = by (reception_outcome own m) e
   where
-    by : (o : Outcome) → outcome_of (cond (is_own o) (own_effect m r) Nothing) o r ≡ refusal n
-        → (receiver_of (cond (is_own o) (own_effect m r) Nothing) r ≡ r) × (segments_of (cond (is_own o) (own_effect m r) Nothing) m s ≡ s)
+    by : (o : Outcome) → outcome_of (cond (is_own o) (own_effect m r) (Ok None)) o r ≡ refusal n
+        → (receiver_of (cond (is_own o) (own_effect m r) (Ok None)) r ≡ r) × (segments_of (cond (is_own o) (own_effect m r) (Ok None)) m s ≡ s)
     by (refusal j) q = (refl, refl)
-    by (answer j vs) q = refused_effect (cond (is_own (answer j vs)) (own_effect m r) Nothing) j vs m r s n q
-
-pub not_ours_said : (a : ℕ) (p q : Progress) → p ≡ q → said (A.NotOurs a p) ≡ said (A.NotOurs a q)
-not_ours_said a p q e = ap (λ (k : Progress). said (A.NotOurs a k)) e
+    by (answer j vs) q = refused_effect (cond (is_own (answer j vs)) (own_effect m r) (Ok None)) j vs m r s n q
 
 -- ---- what is known of a segment's message
 
 -- an answer with the number of 'own' is 'own'
-pub own_answer : (own : ℕ) (m : List ℕ) → is_own (reception_outcome own m) ≡ true → said_reception R.Own ≡ reception_outcome own m
+pub own_answer : (own : ℕ) (m : List ℕ) → is_own (reception_outcome own m) ≡ true → answered R.Own ≡ reception_outcome own m
 own_answer own m e = by (reception_of own (address_read (number m)) (format_number m)) (admitted own m unrefused).outcome
   where
     unrefused : Unrefused (reception_outcome own m)
     unrefused n k = never e (ap is_own k)
 
-    by : (a : Reception) → reception_outcome own m ≡ said_reception a → said_reception R.Own ≡ reception_outcome own m
+    by : (a : Reception) → reception_outcome own m ≡ answered a → answered R.Own ≡ reception_outcome own m
     by R.Own p = sym p
     by R.AllCall p = absurd (never e (ap is_own p))
     by R.Broadcast p = absurd (never e (ap is_own p))
     by (R.NotOurs a) p = absurd (never e (ap is_own p))
-    by (R.Refused n) p = absurd (never e (ap is_own p))
 
 -- a message of this format whose first bit agrees with its length is a long one, and so is an own interrogation
 pub long_format : (m : List ℕ) → first_bit_agrees m ≡ true → is_extended m ≡ true → length m ≡ 14
 unfolding is_extended
 long_format m h e = let three : get_or m 0 0 / 2 ^ 6 ≡ 3 = eqb-true (get_or m 0 0 / 2 ^ 6) 3 e in long_by_first_bit m h (omega arith)
 
-pub long_message : (own : ℕ) (m : List ℕ) → said_reception R.Own ≡ reception_outcome own m → is_extended m ≡ true → length m ≡ 14
+pub long_message : (own : ℕ) (m : List ℕ) → answered R.Own ≡ reception_outcome own m → is_extended m ≡ true → length m ≡ 14
 long_message own m h e = long_format m (admitted own m (λ n k. refusal_is_no_answer (sym k ∙ sym h))).first_bit_agreeing e
 
 -- format, RC and NC go by the first byte
@@ -182,48 +146,58 @@ pub parts_of : (m : List ℕ) (c n : ℕ) → get_or m 0 0 ≡ 192 + 16 * c + n 
 unfolding is_extended reply_control segment_number
 parts_of m c n e hc hn = (eq-eqb (get_or m 0 0 / 2 ^ 6) 3 (omega arith), omega arith, omega arith)
 
-nothing_stored : (next : Receiver) → Stored next ≡ Nothing → ⊥
-nothing_stored next q = never refl (ap stores q)
-  where
-    stores : Effect → Bool
-    stores (Refused n) = false
-    stores Nothing = false
-    stores (Stored r) = true
-
 pub number-lt_16 : (m : List ℕ) → segment_number m < 16
 unfolding segment_number
 number-lt_16 m = omega arith
 
--- what stores is of this format
-pub stores_extended : (m : List ℕ) (r next : Receiver) → Stored next ≡ own_effect m r → is_extended m ≡ true
+-- what stores is a long message of this format
+pub stores_long : (own : ℕ) (m : List ℕ) (r next : Receiver) (o : Outcome) (n : Option Receiver) → o ≡ reception_outcome own m
+    → Ok n ≡ cond (is_own o) (own_effect m r) (Ok None) → n ≡ Some next → length m ≡ 14
 unfolding own_effect
-stores_extended m r next e = by (is_extended m) refl e
+stores_long own m r next o n h e p = by (is_own o) refl (is_extended m) refl n e p
   where
-    by : (t : Bool) → is_extended m ≡ t → Stored next ≡ cond t (effect_of (reply_control m) (segment_number m) r) Nothing → t ≡ true
-    by true p q = refl
-    by false p q = absurd (nothing_stored next q)
+    by : (t : Bool) → is_own o ≡ t → (u : Bool) → is_extended m ≡ u → (n : Option Receiver)
+        → Ok n ≡ cond t (cond u (effect_of (reply_control m) (segment_number m) r) (Ok None)) (Ok None) → n ≡ Some next → length m ≡ 14
+    by true i true f n q p = long_message own m (own_answer own m (ap is_own (sym h) ∙ i)) f
+    by true i false f n q p = absurd (cc)
+    by false i u f n q p = absurd (cc)
 
 -- ---- different answers of the code are different answers
-
--- what an answer was said for
-abbrev unsaid : Outcome → Answer
-unsaid (refusal n) = A.Refused n
-unsaid (answer n vs) =
-    cond (eqb n 1) (A.Own (record { acknowledgement = get_or vs 0 0; whole = eqb (get_or vs 1 0) 1 }))
-    (cond (eqb n 2) (A.AllCall (record { acknowledgement = get_or vs 0 0; whole = eqb (get_or vs 1 0) 1 }))
-    (cond (eqb n 4) (A.Broadcast (record { acknowledgement = get_or vs 0 0; whole = eqb (get_or vs 1 0) 1 }))
-    (A.NotOurs (get_or vs 0 0) (record { acknowledgement = get_or vs 1 0; whole = eqb (get_or vs 2 0) 1 }))))
 
 one_back : (t : Bool) → eqb (one t) 1 ≡ t
 one_back true = refl
 one_back false = refl
 
-unsaid-said : (x : Answer) → unsaid (said x) ≡ x
-unsaid-said (A.Own p) = ap (λ (t : Bool). A.Own (record { acknowledgement = p.acknowledgement; whole = t })) (one_back p.whole)
-unsaid-said (A.AllCall p) = ap (λ (t : Bool). A.AllCall (record { acknowledgement = p.acknowledgement; whole = t })) (one_back p.whole)
-unsaid-said (A.Broadcast p) = ap (λ (t : Bool). A.Broadcast (record { acknowledgement = p.acknowledgement; whole = t })) (one_back p.whole)
-unsaid-said (A.NotOurs a p) = ap (λ (t : Bool). A.NotOurs a (record { acknowledgement = p.acknowledgement; whole = t })) (one_back p.whole)
-unsaid-said (A.Refused n) = refl
+-- what an answer was said for
+abbrev progress_back : List ℕ → Progress
+progress_back vs = record { acknowledgement = get_or vs 0 0; whole = eqb (get_or vs 1 0) 1 }
 
-pub said_injective : (x y : Answer) → said x ≡ said y → x ≡ y
-said_injective x y e = sym (unsaid-said x) ∙ ap unsaid e ∙ unsaid-said y
+abbrev unsaid : Outcome → Answer
+unsaid (refusal n) = record { reception = R.Own; progress = progress_back [] }
+unsaid (answer n vs) =
+    cond (eqb n 1) (record { reception = R.Own; progress = progress_back vs })
+    (cond (eqb n 2) (record { reception = R.AllCall; progress = progress_back vs })
+    (cond (eqb n 4) (record { reception = R.Broadcast; progress = progress_back vs })
+    (record { reception = R.NotOurs (get_or vs 0 0); progress = progress_back (drop 1 vs) })))
+
+put : Reception → ℕ → Bool → Answer
+put a n t = record { reception = a; progress = record { acknowledgement = n; whole = t } }
+
+unsaid-said : (a : Reception) (p : Progress) → unsaid (with_progress (answered a) p) ≡ record { reception = a; progress = p }
+unfolding put
+unsaid-said R.Own p = ap (put R.Own p.acknowledgement) (one_back p.whole)
+unsaid-said R.AllCall p = ap (put R.AllCall p.acknowledgement) (one_back p.whole)
+unsaid-said R.Broadcast p = ap (put R.Broadcast p.acknowledgement) (one_back p.whole)
+unsaid-said (R.NotOurs n) p = ap (put (R.NotOurs n) p.acknowledgement) (one_back p.whole)
+
+no_refusal : (a : Reception) (p : Progress) (n : ℕ) → refusal n ≡ with_progress (answered a) p → ⊥
+no_refusal R.Own p n = refusal_is_no_answer
+no_refusal R.AllCall p n = refusal_is_no_answer
+no_refusal R.Broadcast p n = refusal_is_no_answer
+no_refusal (R.NotOurs a) p n = refusal_is_no_answer
+
+pub said_injective : (x y : Result Answer Refusal) → said x ≡ said y → x ≡ y
+said_injective =
+    said_by_injective (λ a. with_progress (answered a.reception) a.progress)
+    (λ a b e. sym (unsaid-said a.reception a.progress) ∙ ap unsaid e ∙ unsaid-said b.reception b.progress)
+    (λ a. no_refusal a.reception a.progress)

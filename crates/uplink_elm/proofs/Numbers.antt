@@ -4,13 +4,14 @@ use mathlib.Core.Path.{◌≡◌, refl, sym, ap, ap₂, ◌∙◌, subst}
 use mathlib.Core.Bool.{Bool, true, false, ◌&&◌}
 use mathlib.Core.Logic.{◌⊎◌, inl, inr}
 use Prim.Native.Nat.{ℕ, zero, suc, ◌+◌, ◌-◌, ◌*◌, ◌/◌, ◌%◌, ◌^◌, ◌<◌, ◌≤◌, max}
-use native.Mathlib.Nat.{not-suc-le-zero, le_of_suc-le-suc, eq-or-lt_of_le, max-le, max-zero, one-mul, zero-add, zero-div, pow-suc}
+use native.Mathlib.Nat.{add-zero, not-suc-le-zero, le_of_suc-le-suc, eq-or-lt_of_le, max-le, max-zero, one-mul, zero-add, zero-div, pow-suc}
 use native.Mathlib.Omega.{arith}
+use Rattle.std.specs.List.{list_all, range_with_len}
 use lib.Bits.{bit_or, or_step, or_shr, or_lt, or_zero_l}
 use lib.Dec.{eqb, ltb}
 use lib.Pow.{pow-lt, pow-add, shl-shr, shr_lt}
 use borrow.Author.Tests.{eqb-true, eq-eqb, ltb-true, ltb-false, lt-ltb, le-ltb}
-use Rattle.outcome.proofs.Laws.{never, both, positive}
+use Rattle.outcome.proofs.Laws.{both, positive}
 use Rattle.uplink_elm.specs.declared.Receiver.{Receiver}
 use Rattle.uplink_elm.specs.Segments.{bit_of, is_held, with_number, all_below}
 use Rattle.uplink_elm.specs.Receiving.{is_whole}
@@ -35,12 +36,27 @@ unfolding all_below
 all-below f zero h = refl
 all-below f (suc n) h = next-below f n (all-below f n (λ k l. h k (omega arith))) (h n (omega arith))
 
-pub not-below : (f : ℕ → Bool) (n k : ℕ) → k < n → f k ≡ false → false ≡ all_below f n
-not-below f n k h g = by (all_below f n) refl
+-- the same of the list of those numbers, which an iterator goes through
+all_from : (f : ℕ → Bool) (a n : ℕ) → list_all f (range_with_len a (suc n)) ≡ (list_all f (range_with_len a n) && f (a + n))
+all_from f a zero = ends (f a) ∙ ap f (sym (add-zero a))
   where
-    by : (t : Bool) → all_below f n ≡ t → false ≡ t
-    by true e = absurd (never (each_below f n e k h) g)
-    by false e = refl
+    ends : (t : Bool) → (t && true) ≡ t
+    ends true = refl
+    ends false = refl
+all_from f a (suc n) =
+    let next : a + 1 + n ≡ a + suc n = omega arith in
+    ap (λ (t : Bool). f a && t) (all_from f (a + 1) n ∙ ap (λ (k : ℕ). list_all f (range_with_len (a + 1) n) && f k) next)
+    ∙ grouped (f a) (list_all f (range_with_len (a + 1) n)) (f (a + suc n))
+  where
+    grouped : (t u v : Bool) → (t && (u && v)) ≡ ((t && u) && v)
+    grouped true u v = refl
+    grouped false u v = refl
+
+pub all_below-range : (f : ℕ → Bool) (n : ℕ) → list_all f (range_with_len 0 n) ≡ all_below f n
+unfolding all_below
+all_below-range f zero = refl
+all_below-range f (suc n) =
+    all_from f 0 n ∙ ap₂ (λ (t : Bool) (k : ℕ). t && f k) (all_below-range f n) (zero-add n)
 
 -- ---- a number held is one of 16
 

@@ -7,20 +7,20 @@ use mathlib.Core.List.{List}
 use Prim.Native.Nat.{ℕ, zero, suc, ◌<◌}
 use lib.Dec.{eqb, leb}
 use borrow.Author.Tests.{eqb-true, eq-eqb, leb-false, lt-leb, not-true}
+use Rattle.std.specs.Prelude.{Some, None, Ok, Err}
 use Rattle.outcome.specs.Outcomes.{Outcome, unless}
 use Rattle.outcome.specs.Outcomes.Outcome.{refusal, answer}
 use Rattle.outcome.specs.Refusals.{nothing_opened, number_above_last}
+use Rattle.outcome.specs.declared.Refusal.TheVariants.{NothingOpened, NumberAboveLast}
 use Rattle.outcome.proofs.Laws.{never, both, refusal_is_no_answer}
 use Rattle.message.specs.Message.{number, format_number}
 use Rattle.division.specs.Division.{address_read}
-use Rattle.transponder.specs.Receptions.{reception_of, reception_outcome, said as said_reception}
+use Rattle.transponder.specs.Receptions.{reception_of, reception_outcome, answered}
 use Rattle.transponder.specs.declared.Reception.TheVariants as R
 use Rattle.transponder.proofs.Laws.{admitted}
 use Rattle.uplink_elm.specs.declared.Receiver.{Receiver}
-use Rattle.uplink_elm.specs.declared.Effect.{Effect}
-use Rattle.uplink_elm.specs.declared.Effect.TheVariants.{Refused, Nothing, Stored}
 use Rattle.uplink_elm.specs.Segments.{is_extended, reply_control, segment_number, bit_of, with_number}
-use Rattle.uplink_elm.specs.Receiving.{progress_of, with_progress, effect_of, own_effect, is_own, call_effect, receiver_of, outcome_of, receiving_outcome, receiver_after}
+use Rattle.uplink_elm.specs.Receiving.{Effect, progress_of, with_progress, effect_of, own_effect, is_own, call_effect, receiver_of, outcome_of, receiving_outcome, receiver_after}
 use Rattle.uplink_elm.proofs.Effects.{own_answer}
 
 -- ---- the tests, by RC, NC and the receiver
@@ -88,7 +88,7 @@ is_above_lem c n r = (to c, from c)
     from c (inl e, o, l) = ap (λ (x : ℕ). is_above x n r) e ∙ back o l
     from c (inr e, o, l) = ap (λ (x : ℕ). is_above x n r) e ∙ back o l
 
-pub of_own_lem : (own : ℕ) (m : List ℕ) (t : Bool) → (of_own own m t ≡ true) ↔ ((reception_outcome own m ≡ said_reception R.Own) × (is_extended m ≡ true) × (t ≡ true))
+pub of_own_lem : (own : ℕ) (m : List ℕ) (t : Bool) → (of_own own m t ≡ true) ↔ ((reception_outcome own m ≡ answered R.Own) × (is_extended m ≡ true) × (t ≡ true))
 of_own_lem own m t = (
   (λ e.
       let p = both (is_own (reception_outcome own m)) (is_extended m && t) e in
@@ -109,7 +109,7 @@ abbrev pub two_rows : Bool → Bool → Outcome → Outcome
 two_rows s t o = unless (not s) nothing_opened (unless (not t) number_above_last o)
 
 adding-rows : (n : ℕ) (r : Receiver) (o : Outcome) (a u : Bool)
-    → let e : Effect = cond a (cond u (Stored (record { opened = true; last = r.last; held = with_number r.held n })) (Refused number_above_last)) (Refused nothing_opened) in
+    → let e : Effect = cond a (cond u (Ok (Some (record { opened = true; last = r.last; held = with_number r.held n }))) (Err NumberAboveLast)) (Err NothingOpened) in
     two_rows (not a) (a && not u) (with_progress o (progress_of (receiver_of e r))) ≡ outcome_of e o r
 adding-rows n r o true true = refl
 adding-rows n r o true false = refl
@@ -120,8 +120,8 @@ by_effect : (c n : ℕ) (r : Receiver) (o : Outcome)
 unfolding effect_of
 by_effect zero n r o = opening (eqb n 0)
   where
-    opening : (t : Bool) → two_rows t false (with_progress o (progress_of (receiver_of (cond t (Refused nothing_opened) (Stored (record { opened = true; last = n; held = bit_of n }))) r)))
-        ≡ outcome_of (cond t (Refused nothing_opened) (Stored (record { opened = true; last = n; held = bit_of n }))) o r
+    opening : (t : Bool) → two_rows t false (with_progress o (progress_of (receiver_of (cond t (Err NothingOpened) (Ok (Some (record { opened = true; last = n; held = bit_of n })))) r)))
+        ≡ outcome_of (cond t (Err NothingOpened) (Ok (Some (record { opened = true; last = n; held = bit_of n })))) o r
     opening true = refl
     opening false = refl
 by_effect (suc zero) n r o = adding-rows n r o r.opened (leb n r.last)
@@ -134,7 +134,7 @@ module _ (own : ℕ) (m : List ℕ) (r : Receiver) where
   behind o = by (is_own (reception_outcome own m)) (is_extended m)
     where
       by : (x y : Bool)
-          → let e : Effect = cond x (cond y (effect_of (reply_control m) (segment_number m) r) Nothing) Nothing in
+          → let e : Effect = cond x (cond y (effect_of (reply_control m) (segment_number m) r) (Ok None)) (Ok None) in
           two_rows (x && (y && opens_none (reply_control m) (segment_number m) r)) (x && (y && is_above (reply_control m) (segment_number m) r)) (with_progress o (progress_of (receiver_of e r)))
           ≡ outcome_of e o r
       by true true = by_effect (reply_control m) (segment_number m) r o
@@ -143,7 +143,7 @@ module _ (own : ℕ) (m : List ℕ) (r : Receiver) where
 
   -- the transponder's refusals, then rows 10 and 11, then the transponder's answer with the progress
   pub by-reception : onward (reception_outcome own m)
-      (two_rows (unopened own m r) (above own m r) (with_progress (said_reception (reception_of own (address_read (number m)) (format_number m))) (progress_of (receiver_after own m r))))
+      (two_rows (unopened own m r) (above own m r) (with_progress (answered (reception_of own (address_read (number m)) (format_number m))) (progress_of (receiver_after own m r))))
       ≡ receiving_outcome own m r
   unfolding receiving_outcome call_effect
   by-reception = by (reception_outcome own m) refl
@@ -152,7 +152,7 @@ module _ (own : ℕ) (m : List ℕ) (r : Receiver) where
       rows o = two_rows (unopened own m r) (above own m r) (with_progress o (progress_of (receiver_after own m r)))
 
       by : (x : Outcome) → reception_outcome own m ≡ x
-          → onward x (rows (said_reception (reception_of own (address_read (number m)) (format_number m)))) ≡ outcome_of (call_effect own m r) (reception_outcome own m) r
-      by (refusal n) e = sym (ap (λ (q : Outcome). outcome_of (cond (is_own q) (own_effect m r) Nothing) q r) e)
+          → onward x (rows (answered (reception_of own (address_read (number m)) (format_number m)))) ≡ outcome_of (call_effect own m r) (reception_outcome own m) r
+      by (refusal n) e = sym (ap (λ (q : Outcome). outcome_of (cond (is_own q) (own_effect m r) (Ok None)) q r) e)
       by (answer n vs) e =
           ap rows (sym (admitted own m (λ k f. refusal_is_no_answer (sym f ∙ e))).outcome) ∙ behind (reception_outcome own m)

@@ -1,26 +1,26 @@
 // Which numbers are held: 16 bits, the top one for number 0.
-ghost use Rattle.std.specs.Prelude.{suc, ◌<◌, ◌≡◌};
-ghost use Rattle.uplink_elm.specs.Segments.{is_held, bit_of, with_number, all_below};
-ghost use Rattle.uplink_elm.specs.Receiving.{is_whole, progress_of};
+ghost use Rattle.std.specs.Prelude.{suc, ◌≡◌};
+ghost use Rattle.uplink_elm.specs.Segments.{is_held, all_below};
 
 use crate::{Progress, Receiver};
 
-pub(crate) fn progress_of(receiver: Receiver) -> Progress
-    ensures { result ≡ progress_of receiver }
-{
-    Progress {
-        acknowledgement: receiver.held,
-        whole: is_whole(receiver),
-    }
-}
+impl Receiver {
+    ghost use Rattle.uplink_elm.specs.Receiving.{is_whole, progress_of};
 
-fn is_whole(receiver: Receiver) -> bool
-    ensures { result ≡ is_whole receiver }
-{
-    if receiver.opened {
-        all_held(receiver.held, receiver.last)
-    } else {
-        false
+    pub(crate) fn progress(self) -> Progress
+        ensures { result ≡ progress_of self }
+    {
+        Progress {
+            acknowledgement: self.held,
+            whole: self.is_whole(),
+        }
+    }
+
+    #[tactic(auto, unfolding(crate::specs::Receiving::is_whole))]
+    fn is_whole(self) -> bool
+        ensures { result ≡ is_whole self }
+    {
+        self.opened && all_held(self.held, self.last)
     }
 }
 
@@ -28,40 +28,13 @@ fn is_whole(receiver: Receiver) -> bool
 fn all_held(held: u16, last: u8) -> bool
     ensures { result ≡ all_below (is_held held) (suc last) }
 {
-    let mut n: u8 = 0;
-    while is_held(held, n) {
-        if n == last {
-            return true;
-        }
-        n += 1;
-    }
-    false
+    (0..last).all(|n| is_held(held, n)) && is_held(held, last)
 }
 
 // Whether a number is held; one above 15 never is.
+#[tactic(auto, unfolding(crate::specs::Segments::is_held))]
 pub fn is_held(held: u16, number: u8) -> bool
     ensures { result ≡ is_held held number }
 {
-    if number < 16 {
-        let place = 15 - number;
-        (held >> place) % 2 == 1
-    } else {
-        false
-    }
-}
-
-pub(crate) fn with_number(held: u16, number: u8) -> u16
-    requires { number < 16 }
-    ensures { result ≡ with_number held number }
-{
-    held | bit_of(number)
-}
-
-// The bit of a number.
-pub(crate) fn bit_of(number: u8) -> u16
-    requires { number < 16 }
-    ensures { result ≡ bit_of number }
-{
-    let shift = 15 - number;
-    1 << shift
+    number < 16 && (held >> (15 - number)) % 2 == 1
 }

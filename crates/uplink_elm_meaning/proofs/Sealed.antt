@@ -13,7 +13,7 @@ use Rattle.message.proofs.Laws.{same-first_bit}
 use Rattle.division.specs.Division.{parity, overlay, address_read}
 use Rattle.encoder.specs.Seals.{with_parity, seal_outcome, interrogation_after}
 use Rattle.encoder.proofs.Laws.{was_accepted, interrogation_after_lem, interrogation_is, sealed-length, sealed_first, sealed-field, sealed_read}
-use Rattle.transponder.specs.Receptions.{Permitted, reception_outcome, said}
+use Rattle.transponder.specs.Receptions.{Permitted, reception_outcome, answered}
 use Rattle.transponder.specs.declared.Reception.TheVariants.{Own}
 use Rattle.transponder.proofs.Laws.{own_of_read}
 use Rattle.uplink_elm.specs.Segments.{is_extended, reply_control, segment_number, segment}
@@ -38,7 +38,7 @@ module _ (own : ℕ) (u : List ℕ) (h : Permitted own) (e : seal_outcome u own 
   first : get_or sealed 0 0 ≡ get_or u 0 0
   first = ap (λ (l : List ℕ). get_or l 0 0) is ∙ sealed_first u _ (omega (arith, long))
 
-  is_own_lem : reception_outcome own sealed ≡ said Own
+  is_own_lem : reception_outcome own sealed ≡ answered Own
   unfolding sealed
   is_own_lem =
       own_of_read own sealed h (ap is_message_length same_length ∙ (was_accepted u own e).0)
@@ -62,9 +62,9 @@ module _ (own : ℕ) (u : List ℕ) (h : Permitted own) (e : seal_outcome u own 
   unfolding sealed
   sealed-step s = step_of_own own sealed (reply_control u) (segment_number u) (segment u) s is_own_lem extended control sealed-number-is same-segment
 
-  pub sealed-shows : (s : Machine) → machine_outcome own (interrogation_after u own) s ≡ showing (does (reply_control u) (segment_number u) (segment u) s) (said Own)
+  pub sealed-shows : (s : Machine) → machine_outcome own (interrogation_after u own) s ≡ showing (does (reply_control u) (segment_number u) (segment u) s) (answered Own)
   unfolding sealed
   sealed-shows s =
       shown_of_own own sealed s is_own_lem extended
-      ∙ ap (λ (x : ℕ). showing (does x (segment_number sealed) (segment sealed) s) (said Own)) control
-      ∙ ap₂ (λ (x : ℕ) (y : List ℕ). showing (does (reply_control u) x y s) (said Own)) sealed-number-is same-segment
+      ∙ ap (λ (x : ℕ). showing (does x (segment_number sealed) (segment sealed) s) (answered Own)) control
+      ∙ ap₂ (λ (x : ℕ) (y : List ℕ). showing (does (reply_control u) x y s) (answered Own)) sealed-number-is same-segment

@@ -11,15 +11,17 @@ use lib.Dec.{eqb, leb, lit<}
 use lib.ListN.{length}
 use lib.Pow.{shr-shr}
 use borrow.Author.Tests.{eqb-true, eqb-false, ne_eqb, le-leb}
+use Rattle.std.specs.Prelude.{Some, None, Ok, Err}
 use Rattle.outcome.specs.Outcomes.{Outcome}
-use Rattle.transponder.specs.Receptions.{reception_outcome, said}
+use Rattle.outcome.specs.Refusals.{number_of}
+use Rattle.outcome.specs.declared.Refusal.{Refusal}
+use Rattle.outcome.specs.declared.Refusal.TheVariants.{NothingOpened, NumberAboveLast}
+use Rattle.transponder.specs.Receptions.{reception_outcome, answered}
 use Rattle.transponder.specs.declared.Reception.TheVariants.{Own}
 use Rattle.uplink_elm.specs.declared.Receiver.{Receiver}
 use Rattle.uplink_elm.specs.declared.Progress.{Progress}
-use Rattle.uplink_elm.specs.declared.Effect.{Effect}
-use Rattle.uplink_elm.specs.declared.Effect.TheVariants.{Refused, Nothing, Stored}
 use Rattle.uplink_elm.specs.Segments.{is_extended, reply_control, segment_number, segment, bit_of, is_held, with_number, all_below, segment_at, stored}
-use Rattle.uplink_elm.specs.Receiving.{one, is_whole, progress_of, with_progress, is_own, opening_effect, adding_effect, effect_of, own_effect, call_effect, receiver_of, segments_of, outcome_of, receiving_outcome, receiver_after, segments_after}
+use Rattle.uplink_elm.specs.Receiving.{Effect, one, is_whole, progress_of, with_progress, is_own, opening_effect, adding_effect, effect_of, own_effect, call_effect, receiver_of, segments_of, outcome_of, receiving_outcome, receiver_after, segments_after}
 use Rattle.uplink_elm.proofs.Laws.{held-lt, held_is, with-here, with_other, with-lt, first-number, nothing_held, stored-length, stored_here, stored_other, segment-length, own_answer, long_message, number-lt_16}
 use Rattle.uplink_elm_meaning.specs.Machine.{Machine, start, Step, storing, opens, stores, does, is_some, holds, bits_below, acknowledgement, whole, progress, step, resulting, showing, machine_after, machine_outcome}
 use Rattle.uplink_elm_meaning.specs.Machine.Step.{refuses, becomes}
@@ -122,15 +124,15 @@ module _ (own : ℕ) (m : List ℕ) (t : State) (s : Machine) (g : Good t s) whe
   Alike : Effect → Step → Type 0
   Alike e p = (outcome_of e o r ≡ showing p o) × Good (record { receiver = receiver_of e r; places = segments_of e m t.places }) (resulting p s)
 
-  nothing-alike : Alike Nothing (becomes s)
+  nothing-alike : Alike (Ok None) (becomes s)
   unfolding Alike r
   nothing-alike = (ap (with_progress o) (same-progress t s g), g)
 
-  refused-alike : (k : ℕ) → Alike (Refused k) (refuses k)
+  refused-alike : (e : Refusal) → Alike (Err e) (refuses (number_of e))
   unfolding Alike r
-  refused-alike k = (refl, g)
+  refused-alike e = (refl, g)
 
-  stored-alike : (q : Receiver) (p : Machine) → Good (record { receiver = q; places = stored n (segment m) t.places }) p → Alike (Stored q) (becomes p)
+  stored-alike : (q : Receiver) (p : Machine) → Good (record { receiver = q; places = stored n (segment m) t.places }) p → Alike (Ok (Some q)) (becomes p)
   unfolding Alike r n
   stored-alike q p h = (ap (with_progress o) (same-progress _ p h), h)
 
@@ -152,9 +154,9 @@ module _ (own : ℕ) (m : List ℕ) (t : State) (s : Machine) (g : Good t s) whe
         empty : (k : ℕ) → cond (is_held 0 k) (some (segment_at t.places k)) none ≡ none
         empty k = ap (λ (u : Bool). cond u (some (segment_at t.places k)) none) (nothing_held k)
 
-        by : (u : Bool) → Alike (cond u (Refused 10) (Stored (record { opened = true; last = n; held = bit_of n })))
+        by : (u : Bool) → Alike (cond u (Err NothingOpened) (Ok (Some (record { opened = true; last = n; held = bit_of n }))))
             (cond u (refuses 10) (becomes (record { opened = true; last = n; segments = storing n (segment m) (λ k. none) })))
-        by true = refused-alike 10
+        by true = refused-alike NothingOpened
         by false =
             stored-alike (record { opened = true; last = n; held = bit_of n }) _
             (subst (λ (b : ℕ). Good (record { receiver = record { opened = true; last = n; held = b }; places = stored n (segment m) t.places }) (record { opened = true; last = n; segments = storing n (segment m) (λ k. none) }))
@@ -171,11 +173,11 @@ module _ (own : ℕ) (m : List ℕ) (t : State) (s : Machine) (g : Good t s) whe
         next = record { opened = true; last = s.last; segments = storing n (segment m) s.segments }
 
         by : (a u : Bool)
-            → Alike (cond a (cond u (Stored (record { opened = true; last = t.receiver.last; held = with_number t.receiver.held n })) (Refused 11)) (Refused 10))
+            → Alike (cond a (cond u (Ok (Some (record { opened = true; last = t.receiver.last; held = with_number t.receiver.held n }))) (Err NumberAboveLast)) (Err NothingOpened))
             (cond a (cond u (becomes next) (refuses 11)) (refuses 10))
         by true true = stored-alike _ next (placed t.receiver.held s.segments s.last t.receiver.last g.same.1 g.narrow g.same.2)
-        by true false = refused-alike 11
-        by false u = refused-alike 10
+        by true false = refused-alike NumberAboveLast
+        by false u = refused-alike NothingOpened
 
     does-alike : (c : ℕ) → Alike (effect_of c n r) (does c n (segment m) s)
     unfolding effect_of does
@@ -189,7 +191,7 @@ module _ (own : ℕ) (m : List ℕ) (t : State) (s : Machine) (g : Good t s) whe
   call-alike = by (is_own (reception_outcome own m)) refl (is_extended m) refl
     where
       by : (x : Bool) → is_own (reception_outcome own m) ≡ x → (y : Bool) → is_extended m ≡ y
-          → Alike (cond x (cond y (effect_of (reply_control m) n r) Nothing) Nothing) (cond (x && y) (does (reply_control m) n (segment m) s) (becomes s))
+          → Alike (cond x (cond y (effect_of (reply_control m) n r) (Ok None)) (Ok None)) (cond (x && y) (does (reply_control m) n (segment m) s) (becomes s))
       by true e true f = does-alike (segment-length m (long_message own m (own_answer own m e) f)) (reply_control m)
       by true e false f = nothing-alike
       by false e y f = nothing-alike
@@ -243,7 +245,7 @@ machine_after-append [] ds s = refl
 machine_after-append (c ∷ cs) ds s = machine_after-append cs ds (machine_after c.own c.message s)
 
 -- a message that the transponder answers 'own', by its parts
-pub step_of_own : (own : ℕ) (m : List ℕ) (c n : ℕ) (b : List ℕ) (s : Machine) → reception_outcome own m ≡ said Own → is_extended m ≡ true
+pub step_of_own : (own : ℕ) (m : List ℕ) (c n : ℕ) (b : List ℕ) (s : Machine) → reception_outcome own m ≡ answered Own → is_extended m ≡ true
     → reply_control m ≡ c → segment_number m ≡ n → segment m ≡ b → machine_after own m s ≡ resulting (does c n b s) s
 unfolding machine_after step
 step_of_own own m c n b s e f h i j =
@@ -274,8 +276,8 @@ unfolding does
 asking_adds n b s = refl
 
 -- what such a call shows
-pub shown_of_own : (own : ℕ) (m : List ℕ) (s : Machine) → reception_outcome own m ≡ said Own → is_extended m ≡ true
-    → machine_outcome own m s ≡ showing (does (reply_control m) (segment_number m) (segment m) s) (said Own)
+pub shown_of_own : (own : ℕ) (m : List ℕ) (s : Machine) → reception_outcome own m ≡ answered Own → is_extended m ≡ true
+    → machine_outcome own m s ≡ showing (does (reply_control m) (segment_number m) (segment m) s) (answered Own)
 unfolding machine_outcome step
 shown_of_own own m s e f =
     ap (λ (t : Bool). showing (cond t (does (reply_control m) (segment_number m) (segment m) s) (becomes s)) (reception_outcome own m)) (ap₂ ◌&&◌ (ap is_own e) f)

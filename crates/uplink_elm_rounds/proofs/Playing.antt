@@ -12,7 +12,7 @@ use lib.ListN.{length}
 use lib.Seq.{take_at, drop_at}
 use borrow.Author.Tests.{eqb-true}
 use Rattle.outcome.specs.Outcomes.{Outcome}
-use Rattle.transponder.specs.Receptions.{Permitted, said}
+use Rattle.transponder.specs.Receptions.{Permitted, answered}
 use Rattle.transponder.specs.declared.Reception.TheVariants.{Own}
 use Rattle.uplink_elm.specs.declared.Progress.{Progress}
 use Rattle.uplink_elm.specs.Segments.{segment_number, segment, is_held, segment_at}
@@ -95,14 +95,14 @@ module _ (g : Setting) (ok : Allowed g) where
         ∙ ap (λ (x : ℕ). resulting (does x (segment_number bare) (segment bare) m) m) parts.1
         ∙ ap₂ (λ (x : ℕ) (y : List ℕ). resulting (does rc x y m) m) parts.2 parts.3
 
-    shows : (m : Machine) → machine_outcome g.own (transmission g.own rc j (segment_at g.segments j)) m ≡ showing (does rc j (segment_at g.segments j) m) (said Own)
+    shows : (m : Machine) → machine_outcome g.own (transmission g.own rc j (segment_at g.segments j)) m ≡ showing (does rc j (segment_at g.segments j) m) (answered Own)
     unfolding sent bare
     shows m =
         let sealed = transmission-sealed rc j (segment_at g.segments j) (ten j lt) g.own own_lt hc small in
         let parts = unsealed-parts rc j (segment_at g.segments j) (ten j lt) hc small in
         ap (λ (l : List ℕ). machine_outcome g.own l m) sealed.1 ∙ sealed-shows g.own bare ok.permitted sealed.0 parts.0 m
-        ∙ ap (λ (x : ℕ). showing (does x (segment_number bare) (segment bare) m) (said Own)) parts.1
-        ∙ ap₂ (λ (x : ℕ) (y : List ℕ). showing (does rc x y m) (said Own)) parts.2 parts.3
+        ∙ ap (λ (x : ℕ). showing (does x (segment_number bare) (segment bare) m) (answered Own)) parts.1
+        ∙ ap₂ (λ (x : ℕ) (y : List ℕ). showing (does rc x y m) (answered Own)) parts.2 parts.3
 
   -- one number more
   stored-as : (j : ℕ) (h : Numbers) → storing j (segment_at g.segments j) (λ i. cond (h i) (some (segment_at g.segments i)) none) ≡ (λ i. cond (with j h i) (some (segment_at g.segments i)) none)
@@ -188,10 +188,10 @@ module _ (g : Setting) (ok : Allowed g) where
       later : Good (after (call g x) t) m
       later = subst (Good _) is (good-after g.own x t (machine_of h) q)
 
-      shown : receiving_outcome g.own x t.receiver ≡ showing (becomes m) (said Own)
+      shown : receiving_outcome g.own x t.receiver ≡ showing (becomes m) (answered Own)
       shown =
           same_outcome g.own x t (machine_of h) q ∙ ap (λ (l : List ℕ). machine_outcome g.own l (machine_of h)) exchange-is
-          ∙ shows 2 (count g - 1) (lit< tt) last-lt (machine_of h) ∙ ap (λ (p : Step). showing p (said Own)) (last-asks h)
+          ∙ shows 2 (count g - 1) (lit< tt) last-lt (machine_of h) ∙ ap (λ (p : Step). showing p (answered Own)) (last-asks h)
 
       brought : first_value (receiving_outcome g.own x t.receiver) ≡ (after (call g x) t).receiver.held
       brought = ap first_value shown ∙ sym (ap (λ (p : Progress). p.acknowledgement) (same-progress _ m later))

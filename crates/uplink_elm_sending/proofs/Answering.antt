@@ -6,17 +6,17 @@ use mathlib.Core.List.{List}
 use Prim.Native.Nat.{ℕ, ◌*◌, ◌/◌, ◌%◌, ◌^◌, ◌<◌, ◌≤◌}
 use native.Mathlib.Omega.{arith}
 use lib.Dec.{eqb, leb}
-use lib.ListN.{length, get_or}
+use lib.ListN.{length}
 use borrow.Author.Tests.{eqb-true, eqb-false, eq-eqb, ne_eqb, leb-true, leb-false, le-leb, lt-leb}
-use Rattle.outcome.specs.Outcomes.{Outcome, value}
-use Rattle.outcome.specs.Outcomes.Outcome.{refusal, answer}
+use Rattle.std.specs.Prelude.{Result}
+use Rattle.outcome.specs.declared.Refusal.{Refusal}
+use Rattle.outcome.specs.Outcomes.{Outcome, value, done, unless}
+use Rattle.outcome.specs.Outcomes.Outcome.{refusal}
 use Rattle.outcome.specs.Refusals.{word_too_large, not_sendable}
-use Rattle.outcome.proofs.Laws.{never, both, refused, passed, passed_value, unless-answer, same-value, left_of}
+use Rattle.outcome.proofs.Laws.{never, both, passed, passed_value, unless-answer, same-value, passed_row, refused_row, left_of, said_by_injective, refusal_is_no_answer}
 use Rattle.message.specs.Message.{is_word}
 use Rattle.message.proofs.Laws.{word_lt}
 use Rattle.uplink_elm_sending.specs.Sending.{transmissions, segment_count, last_numbers, round_numbers, is_round_size, is_segmented, is_room, said, last_outcome, round_outcome, last_after, opening_after, exchange_after, round_after}
-use Rattle.uplink_elm_sending.specs.declared.Sending.{Sending}
-use Rattle.uplink_elm_sending.specs.declared.Sending.TheVariants.{Sent, Refused}
 
 -- ---- the tests
 
@@ -79,19 +79,7 @@ count_is bytes = refl
 -- ---- the opening and the exchange
 
 module _ (address bytes room : ℕ) where
-  pub last_word : is_word address ≡ false → refusal word_too_large ≡ last_outcome address bytes room
-  unfolding last_outcome
-  last_word e = refused (is_word address) word_too_large _ e
-
   module _ (word : is_word address ≡ true) where
-    pub last-unsegmented : is_segmented bytes ≡ false → refusal not_sendable ≡ last_outcome address bytes room
-    unfolding last_outcome
-    last-unsegmented e = passed (is_word address) word_too_large _ _ word (refused (is_segmented bytes) not_sendable _ e)
-
-    pub last-no-room : is_segmented bytes ≡ true → (room ≡ 14 → ⊥) → refusal not_sendable ≡ last_outcome address bytes room
-    unfolding last_outcome is_room last_numbers
-    last-no-room e h = passed (is_word address) word_too_large _ _ word (passed (is_segmented bytes) not_sendable _ _ e (refused (eqb room 14) not_sendable _ (ne_eqb room 14 h)))
-
     pub last-sent : is_segmented bytes ≡ true → room ≡ 14 → value 1 ≡ last_outcome address bytes room
     unfolding last_outcome is_room last_numbers
     last-sent e h = passed (is_word address) word_too_large _ _ word (passed (is_segmented bytes) not_sendable _ _ e (passed_value (eqb room 14) not_sendable 1 1 (eq-eqb room 14 h) refl))
@@ -112,38 +100,27 @@ module _ (address bytes acknowledgement s room : ℕ) where
   numbers : List ℕ
   numbers = round_numbers acknowledgement (segment_count bytes) s
 
-  pub round-word : is_word address ≡ false → refusal word_too_large ≡ round_outcome address bytes acknowledgement s room
-  unfolding round_outcome
-  round-word e = refused (is_word address) word_too_large _ e
-
   module _ (word : is_word address ≡ true) where
-    pub round-oversized : is_round_size s ≡ false → refusal not_sendable ≡ round_outcome address bytes acknowledgement s room
-    unfolding round_outcome
-    round-oversized e = passed (is_word address) word_too_large _ _ word (refused (is_round_size s) not_sendable _ e)
-
     module _ (size : is_round_size s ≡ true) where
-      pub round-unsegmented : is_segmented bytes ≡ false → refusal not_sendable ≡ round_outcome address bytes acknowledgement s room
-      unfolding round_outcome
-      round-unsegmented e =
-          passed (is_word address) word_too_large _ _ word (passed (is_round_size s) not_sendable _ _ size (refused (is_segmented bytes) not_sendable _ e))
+      module _ (n : ℕ) (e : is_segmented bytes ≡ true) (g : n ≡ length (round_numbers acknowledgement (segment_count bytes) s)) where
+        same-room : eqb room (n * 14) ≡ is_room room (round_numbers acknowledgement (segment_count bytes) s)
+        unfolding is_room
+        same-room = ap (λ (k : ℕ). eqb room (k * 14)) g
 
-      pub round-no-room : (n : ℕ) → is_segmented bytes ≡ true → n ≡ length (round_numbers acknowledgement (segment_count bytes) s) → (room ≡ n * 14 → ⊥)
-          → refusal not_sendable ≡ round_outcome address bytes acknowledgement s room
-      unfolding round_outcome is_room numbers
-      round-no-room n e g h =
-          passed (is_word address) word_too_large _ _ word
-          (passed (is_round_size s) not_sendable _ _ size
-          (passed (is_segmented bytes) not_sendable _ _ e
-          (refused (eqb room (length numbers * 14)) not_sendable _ (ne_eqb room (length numbers * 14) (λ p. h (p ∙ ap (λ (k : ℕ). k * 14) (sym g)))))))
+        before-room : (o : Outcome) → o ≡ unless (is_room room numbers) not_sendable (value (length numbers)) → o ≡ round_outcome address bytes acknowledgement s room
+        unfolding round_outcome numbers
+        before-room o h =
+            passed (is_word address) word_too_large _ _ word (passed (is_round_size s) not_sendable _ _ size (passed (is_segmented bytes) not_sendable _ _ e h))
 
-      pub round-sent : (n : ℕ) → is_segmented bytes ≡ true → n ≡ length (round_numbers acknowledgement (segment_count bytes) s) → room ≡ n * 14
-          → value n ≡ round_outcome address bytes acknowledgement s room
-      unfolding round_outcome is_room numbers
-      round-sent n e g h =
-          passed (is_word address) word_too_large _ _ word
-          (passed (is_round_size s) not_sendable _ _ size
-          (passed (is_segmented bytes) not_sendable _ _ e
-          (passed_value (eqb room (length numbers * 14)) not_sendable n (length numbers) (eq-eqb room (length numbers * 14) (h ∙ ap (λ (k : ℕ). k * 14) g)) g)))
+        pub round-no-room : (r : ℕ) → refusal r ≡ unless (eqb room (n * 14)) not_sendable done → refusal r ≡ round_outcome address bytes acknowledgement s room
+        unfolding numbers
+        round-no-room r h = before-room (refusal r) (refused_row (eqb room (n * 14)) _ not_sendable r _ h same-room)
+
+        pub round-sent : done ≡ unless (eqb room (n * 14)) not_sendable done → value n ≡ round_outcome address bytes acknowledgement s room
+        unfolding numbers
+        round-sent h =
+            before-room (value n)
+            (passed_value _ not_sendable n (length numbers) (passed_row (eqb room (n * 14)) _ not_sendable h same-room) g)
 
 pub round_given : (address bytes acknowledgement s room n : ℕ) → round_outcome address bytes acknowledgement s room ≡ value n
     → (address < 2 ^ 24) × (is_round_size s ≡ true) × (is_segmented bytes ≡ true)
@@ -190,24 +167,7 @@ module _ (address : ℕ) (segments : List ℕ) (acknowledgement s : ℕ) (buffer
   unfolding round_after
   round-after n e = left_of _ _ buffer _ e
 
--- ---- by the answer of a check
-
-pub refused-said : (x : Sending) (n : ℕ) (o : Outcome) → x ≡ Refused n → said x ≡ o → refusal n ≡ o
-refused-said x n o e f = ap said (sym e) ∙ f
-
-pub sent_said : (x : Sending) (n : ℕ) (o : Outcome) → x ≡ Sent n → said x ≡ o → value n ≡ o
-sent_said x n o e f = ap said (sym e) ∙ f
-
 -- ---- different answers of the code are different answers of the paper
 
--- what an answer of the paper was said for
-abbrev unsaid : Outcome → Sending
-unsaid (answer n vs) = Sent (get_or vs 0 0)
-unsaid (refusal n) = Refused n
-
-unsaid-said : (x : Sending) → unsaid (said x) ≡ x
-unsaid-said (Sent n) = refl
-unsaid-said (Refused n) = refl
-
-pub said_injective : (x y : Sending) → said x ≡ said y → x ≡ y
-said_injective x y e = sym (unsaid-said x) ∙ ap unsaid e ∙ unsaid-said y
+pub said_injective : (x y : Result ℕ Refusal) → said x ≡ said y → x ≡ y
+said_injective = said_by_injective (λ n. value n) (λ _ _. same-value) (λ _ _. refusal_is_no_answer)

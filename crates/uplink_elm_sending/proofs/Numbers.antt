@@ -1,7 +1,7 @@
 -- The numbers that a round transmits. The idea: a list of the numbers that fail a test is empty, or begins with one of them and goes on
 -- with those behind it (`begins`); so a round goes on from number to number.
 use mathlib.Core.Path.{◌≡◌, refl, sym, ap, ap₂, ◌∙◌, subst}
-use mathlib.Core.Bool.{Bool, true, false, cond}
+use mathlib.Core.Bool.{Bool, true, false, cond, not}
 use mathlib.Core.Logic.{◌⊎◌, inl, inr}
 use mathlib.Core.List.{List, [], ◌∷◌}
 use Prim.Native.Nat.{ℕ, zero, suc, ◌+◌, ◌-◌, ◌<◌, ◌≤◌}
@@ -9,7 +9,11 @@ use native.Mathlib.Nat.{sub-zero}
 use native.Mathlib.Omega.{arith}
 use lib.ListN.{length}
 use Rattle.uplink_elm_sending.specs.Sending.{failing, unacknowledged, taken, round_numbers}
-use Rattle.uplink_elm_sending.specs.Choosing.{first_or, lowest_from, next_from}
+use Rattle.std.specs.Prelude.{Option, Some, None, IsSome, slice_get}
+use Rattle.std.specs.Option.{option_or}
+use Rattle.std.specs.List.{find, range_with_len}
+use Rattle.std.proofs.lemmas.Option.{same_Some}
+use Rattle.uplink_elm_sending.specs.Choosing.{lowest_from, next_from}
 use Rattle.uplink_elm.specs.Segments.{is_held}
 
 -- ---- the numbers that fail a test
@@ -45,44 +49,22 @@ module _ (f : ℕ → Bool) where
       by true e (inr (n, ge, lt, fails, p)) = inr (n, omega arith, lt, fails, failing-past from k e ∙ p)
       by false e p = inr (from, omega arith, omega arith, e, failing-here from k e ∙ ap (λ (j : ℕ). from ∷ failing f (suc from) j) left)
 
-  -- ---- the lowest of them
+  -- ---- the lowest of them, which an iterator finds
 
-  pub lowest-here : (count from n : ℕ) → n < count → f n ≡ false → failing f from (count - from) ≡ failing f n (count - n) → n ≡ lowest_from f count from
-  unfolding lowest_from first_or
-  lowest-here count from n lt e p =
-      let more : count - n ≡ suc (count - suc n) = omega arith in
-      sym (ap (first_or count) (p ∙ ap (failing f n) more ∙ failing-here n (count - suc n) e))
-
-  pub lowest-past : (count n : ℕ) → n < count → f n ≡ true → failing f n (count - n) ≡ failing f (n + 1) (count - (n + 1))
-  lowest-past count n lt e =
-      let more : count - n ≡ suc (count - suc n) = omega arith in
-      let next : suc n ≡ n + 1 = omega arith in
-      ap (failing f n) more ∙ failing-past n (count - suc n) e ∙ ap (λ (j : ℕ). failing f j (count - j)) next
-
-  pub lowest-none : (count from n : ℕ) → count ≤ n → failing f from (count - from) ≡ failing f n (count - n) → count ≡ lowest_from f count from
-  unfolding lowest_from first_or
-  lowest-none count from n le p =
-      let none : count - n ≡ 0 = omega arith in
-      sym (ap (first_or count) (p ∙ ap (failing f n) none ∙ failing-none n))
-
-  -- ---- the next of them
-
-  pub next_ahead : (count from : ℕ) → from ≤ count → lowest_from f count from < count → lowest_from f count from ≡ next_from f count from
-  unfolding lowest_from next_from first_or Begins
-  next_ahead count from le lt = by (failing f from (count - from)) lt
+  pub find-failing : (from k : ℕ) → find (λ n. not (f n)) (range_with_len from k) ≡ slice_get (failing f from k) 0
+  unfolding failing
+  find-failing from zero = refl
+  find-failing from (suc k) =
+      let next : suc from ≡ from + 1 = omega arith in
+      let rest : find (λ n. not (f n)) (range_with_len (from + 1) k) ≡ slice_get (failing f (suc from) k) 0 =
+      find-failing (from + 1) k ∙ ap (λ (j : ℕ). slice_get (failing f j k) 0) (sym next) in
+      by (f from) rest
     where
-      by : (l : List ℕ) → first_or count l < count → first_or count l ≡ first_or (lowest_from f count 0) l
-      by [] h = absurd (omega arith)
-      by (n ∷ l) h = refl
-
-  pub next_over : (count from : ℕ) → from ≤ count → count ≤ lowest_from f count from → lowest_from f count 0 ≡ next_from f count from
-  unfolding lowest_from next_from first_or Begins
-  next_over count from le ge = by (begins (count - from) from count (omega arith)) ge
-    where
-      by : Begins from count (failing f from (count - from)) → count ≤ first_or count (failing f from (count - from))
-          → first_or count (failing f 0 (count - 0)) ≡ first_or (first_or count (failing f 0 (count - 0))) (failing f from (count - from))
-      by (inl p) h = sym (ap (first_or (first_or count (failing f 0 (count - 0)))) p)
-      by (inr (n, lo, lt, fails, p)) h = absurd (omega (arith, h, lt, ap (first_or count) p))
+      by : (t : Bool) → find (λ n. not (f n)) (range_with_len (from + 1) k) ≡ slice_get (failing f (suc from) k) 0
+          → cond (not t) (Some from) (find (λ n. not (f n)) (range_with_len (from + 1) k))
+          ≡ slice_get (cond t (failing f (suc from) k) (from ∷ failing f (suc from) k)) 0
+      by true e = e
+      by false e = refl
 
 -- ---- s of them
 
@@ -118,60 +100,64 @@ taken-le [] [] (suc s) = omega arith
 taken-le (n ∷ whole) [] (suc s) = omega (arith, taken-le (n ∷ whole) whole s)
 
 -- the next number of a round, and those behind it
-pub next-taken : (f : ℕ → Bool) (count from s : ℕ) → from ≤ count → 0 < length (failing f 0 count)
-    → (next_from f count from < count)
-    × (taken (failing f 0 count) (failing f from (count - from)) (suc s)
-    ≡ next_from f count from ∷ taken (failing f 0 count) (failing f (suc (next_from f count from)) (count - suc (next_from f count from))) s)
-unfolding next_from lowest_from first_or Begins
+unfoldable pub Next : (ℕ → Bool) → ℕ → ℕ → ℕ → ℕ → Type 0
+Next f count from s n =
+    (next_from f count from ≡ Some n) × (n < count)
+    × (taken (failing f 0 count) (failing f from (count - from)) (suc s) ≡ n ∷ taken (failing f 0 count) (failing f (suc n) (count - suc n)) s)
+
+next-taken : (f : ℕ → Bool) (count from s : ℕ) → from ≤ count → 0 < length (failing f 0 count) → (n : ℕ) × Next f count from s n
+unfolding next_from lowest_from Begins Next
 next-taken f count from s le some = by (begins f (count - from) from count (omega arith)) (begins f count 0 count (omega arith))
   where
     whole : List ℕ
     whole = failing f 0 count
 
-    Next : ℕ → Type 0
-    Next n = (n < count) × (taken whole (failing f from (count - from)) (suc s) ≡ n ∷ taken whole (failing f (suc n) (count - suc n)) s)
-
-    moved : (n k : ℕ) → n ≡ k → Next k → Next n
-    moved n k e h = subst Next (sym e) h
-
-    by : Begins f from count (failing f from (count - from)) → Begins f 0 count (failing f 0 count) → Next (next_from f count from)
-    by (inr (n, lo, lt, fails, p)) q =
-        moved _ n (ap (first_or (lowest_from f count 0)) p)
-        (lt, ap (λ (l : List ℕ). taken whole l (suc s)) p ∙ taken-one whole n _ s)
+    by : Begins f from count (failing f from (count - from)) → Begins f 0 count (failing f 0 count) → (n : ℕ) × Next f count from s n
+    by (inr (n, lo, lt, fails, p)) q = (
+      n,
+      (
+        ap (λ (l : List ℕ). option_or (slice_get l 0) (slice_get (failing f 0 (count - 0)) 0)) p,
+        lt,
+        ap (λ (l : List ℕ). taken whole l (suc s)) p ∙ taken-one whole n _ s,
+      ),
+    )
     by (inl p) (inl q) = absurd (omega (arith, some, ap length q))
-    by (inl p) (inr (n, lo, lt, fails, q)) =
-        moved _ n (ap (first_or (lowest_from f count 0)) p ∙ ap (λ (k : ℕ). first_or count (failing f 0 k)) (sub-zero count) ∙ ap (first_or count) q)
-        (lt, ap₂ (λ (w l : List ℕ). taken w l (suc s)) q p ∙ taken_again n _ s ∙ ap (λ (w : List ℕ). n ∷ taken w (failing f (suc n) (count - suc n)) s) (sym q))
+    by (inl p) (inr (n, lo, lt, fails, q)) = (
+      n,
+      (
+        ap (λ (l : List ℕ). option_or (slice_get l 0) (slice_get (failing f 0 (count - 0)) 0)) p ∙ ap (λ (k : ℕ). slice_get (failing f 0 k) 0) (sub-zero count)
+            ∙ ap (λ (l : List ℕ). slice_get l 0) q,
+        lt,
+        ap₂ (λ (w l : List ℕ). taken w l (suc s)) q p ∙ taken_again n _ s ∙ ap (λ (w : List ℕ). n ∷ taken w (failing f (suc n) (count - suc n)) s) (sym q),
+      ),
+    )
 
 -- ---- a round
 
-lowest_of_all : (f : ℕ → Bool) (count : ℕ) → lowest_from f count 0 ≡ first_or count (failing f 0 count)
+lowest_of_all : (f : ℕ → Bool) (count : ℕ) → lowest_from f count 0 ≡ slice_get (failing f 0 count) 0
 unfolding lowest_from
-lowest_of_all f count = ap (λ (k : ℕ). first_or count (failing f 0 k)) (sub-zero count)
+lowest_of_all f count = ap (λ (k : ℕ). slice_get (failing f 0 k) 0) (sub-zero count)
 
-pub round-none : (acknowledgement count s : ℕ) → count ≤ lowest_from (is_held acknowledgement) count 0 → round_numbers acknowledgement count s ≡ []
-unfolding round_numbers unacknowledged first_or Begins
-round-none a count s ge = by (begins (is_held a) count 0 count (omega arith)) (subst (λ (k : ℕ). count ≤ k) (lowest_of_all (is_held a) count) ge)
-  where
-    by : Begins (is_held a) 0 count (failing (is_held a) 0 count) → count ≤ first_or count (failing (is_held a) 0 count)
-        → taken (failing (is_held a) 0 count) (failing (is_held a) 0 count) s ≡ []
-    by (inl p) h = ap (λ (l : List ℕ). taken l l s) p ∙ taken_none s
-    by (inr (n, lo, lt, fails, p)) h = absurd (omega (arith, h, lt, ap (first_or count) p))
-
-some_fail : (f : ℕ → Bool) (count : ℕ) → lowest_from f count 0 < count → 0 < length (failing f 0 count)
-unfolding first_or
-some_fail f count lt = by (failing f 0 count) (subst (λ (k : ℕ). k < count) (lowest_of_all f count) lt)
-  where
-    by : (l : List ℕ) → first_or count l < count → 0 < length l
-    by [] h = absurd (omega arith)
-    by (n ∷ l) h = omega arith
-
-pub round_some : (acknowledgement count s : ℕ) → lowest_from (is_held acknowledgement) count 0 < count → length (round_numbers acknowledgement count s) ≡ s
+pub round-none : (acknowledgement count s : ℕ) → None ≡ lowest_from (is_held acknowledgement) count 0 → 0 ≡ length (round_numbers acknowledgement count s)
 unfolding round_numbers unacknowledged
-round_some a count s lt = taken-length _ _ s (some_fail (is_held a) count lt)
+round-none a count s e = by (failing (is_held a) 0 count) (e ∙ lowest_of_all (is_held a) count)
+  where
+    by : (l : List ℕ) → None ≡ slice_get l 0 → 0 ≡ length (taken l l s)
+    by [] h = sym (ap length (taken_none s))
+    by (n ∷ l) h = absurd (cc)
+
+pub round_some : (acknowledgement count s n : ℕ) → Some n ≡ lowest_from (is_held acknowledgement) count 0 → s ≡ length (round_numbers acknowledgement count s)
+unfolding round_numbers unacknowledged
+round_some a count s n e = by (failing (is_held a) 0 count) (e ∙ lowest_of_all (is_held a) count)
+  where
+    by : (l : List ℕ) → Some n ≡ slice_get l 0 → s ≡ length (taken l l s)
+    by [] h = absurd (cc)
+    by (k ∷ l) h = sym (taken-length (k ∷ l) (k ∷ l) s (omega arith))
+
+pub ruleset choosing = (round-none, round_some)
 
 -- where a round has transmissions, a number is not acknowledged
-pub round-has : (acknowledgement count s : ℕ) → 0 < length (round_numbers acknowledgement count s) → 0 < length (failing (is_held acknowledgement) 0 count)
+round-has : (acknowledgement count s : ℕ) → 0 < length (round_numbers acknowledgement count s) → 0 < length (failing (is_held acknowledgement) 0 count)
 unfolding round_numbers unacknowledged
 round-has a count s h = by (failing (is_held a) 0 count) h
   where
@@ -199,16 +185,31 @@ round_again a count s n e = by (failing (is_held a) 0 count) e
     by (k ∷ l) h = ap (taken (k ∷ l) (k ∷ l)) (h ∙ taken-length (k ∷ l) (k ∷ l) s (omega arith))
 
 -- one more transmission of a round
+pub round-goes-on : (acknowledgement count n from i : ℕ) → from ≤ count → i < n → length (round_numbers acknowledgement count n) ≡ n
+    → (k : ℕ) × Next (is_held acknowledgement) count from (n - (i + 1)) k
+round-goes-on a count n from i le lt long =
+    next-taken (is_held a) count from (n - (i + 1)) le (round-has a count n (omega (arith, long, lt)))
+
+pub next-some : (acknowledgement count n from i : ℕ) → from ≤ count → i < n → length (round_numbers acknowledgement count n) ≡ n
+    → (r : Option ℕ) → r ≡ next_from (is_held acknowledgement) count from → IsSome r
+unfolding Next
+next-some a count n from i le lt long r e = by r (e ∙ (round-goes-on a count n from i le lt long).1.0)
+  where
+    by : {k : ℕ} (r : Option ℕ) → r ≡ Some k → IsSome r
+    by None h = absurd (cc)
+    by (Some j) h = refl
+
 pub round-step : (acknowledgement count n from i k : ℕ) → from ≤ count → i < n → length (round_numbers acknowledgement count n) ≡ n
-    → k ≡ next_from (is_held acknowledgement) count from
+    → Some k ≡ next_from (is_held acknowledgement) count from
     → (k < count)
     × (taken (failing (is_held acknowledgement) 0 count) (failing (is_held acknowledgement) from (count - from)) (n - i)
     ≡ k ∷ taken (failing (is_held acknowledgement) 0 count) (failing (is_held acknowledgement) (k + 1) (count - (k + 1))) (n - (i + 1)))
+unfolding Next
 round-step a count n from i k le lt long e =
-    subst Step (sym e) (
-      step.0,
-      ap (taken whole (failing (is_held a) from (count - from))) more ∙ step.1
-          ∙ ap (λ (j : ℕ). next_from (is_held a) count from ∷ taken whole (failing (is_held a) j (count - j)) (n - (i + 1))) next,
+    subst Step same (
+      step.1.1,
+      ap (taken whole (failing (is_held a) from (count - from))) more ∙ step.1.2
+          ∙ ap (λ (j : ℕ). step.0 ∷ taken whole (failing (is_held a) j (count - j)) (n - (i + 1))) next,
     )
   where
     whole : List ℕ
@@ -217,16 +218,17 @@ round-step a count n from i k le lt long e =
     Step : ℕ → Type 0
     Step k = (k < count) × (taken whole (failing (is_held a) from (count - from)) (n - i) ≡ k ∷ taken whole (failing (is_held a) (k + 1) (count - (k + 1))) (n - (i + 1)))
 
+    step : (j : ℕ) × Next (is_held a) count from (n - (i + 1)) j
+    step = round-goes-on a count n from i le lt long
+
     more : n - i ≡ suc (n - (i + 1))
     more = omega arith
 
-    next : suc (next_from (is_held a) count from) ≡ next_from (is_held a) count from + 1
+    next : suc step.0 ≡ step.0 + 1
     next = omega arith
 
-    step : (next_from (is_held a) count from < count)
-        × (taken whole (failing (is_held a) from (count - from)) (suc (n - (i + 1)))
-        ≡ next_from (is_held a) count from ∷ taken whole (failing (is_held a) (suc (next_from (is_held a) count from)) (count - suc (next_from (is_held a) count from))) (n - (i + 1)))
-    step = next-taken (is_held a) count from (n - (i + 1)) le (round-has a count n (omega (arith, long, lt)))
+    same : step.0 ≡ k
+    same = same_Some step.0 k (sym step.1.0 ∙ sym e)
 
 pub round_by_test : (acknowledgement count s : ℕ)
     → round_numbers acknowledgement count s ≡ taken (failing (is_held acknowledgement) 0 count) (failing (is_held acknowledgement) 0 count) s

@@ -9,12 +9,18 @@ use lib.Bits.{bit_xor}
 use lib.ListN.{length, get_or, set, take, drop, length-append, length-drop}
 use lib.Seq.{take_at, take_all, length-take-le}
 use borrow.Rule.Slice.PartMut.{put_mid, Post-is}
-use Rattle.outcome.specs.Outcomes.{done}
+use Rattle.std.specs.Prelude.{Result, Ok, Err, IsOk}
+use Rattle.outcome.specs.declared.Refusal.{Refusal}
+use Rattle.outcome.specs.Outcomes.{done, admission}
+use Rattle.outcome.proofs.Laws.{refusal_is_no_answer}
 use Rattle.message.specs.Message.{number, field}
 use Rattle.message.proofs.Laws.{lt-word, long_length, agrees_long, field_is}
 use Rattle.division.specs.Division.{parity, overlay}
 use Rattle.encoder.specs.Seals.{seal_outcome, interrogation_after}
 use Rattle.encoder.proofs.Laws.{accepted, interrogation_after_lem, interrogation_is, sealed-length, seal_by_field}
+use Rattle.uplink_elm.specs.Control.{number_of}
+use Rattle.uplink_elm.specs.declared.control.Control.{Control}
+use Rattle.uplink_elm.specs.declared.control.Control.TheVariants.{Opening, Round, Exchange}
 use Rattle.uplink_elm.specs.Segments.{is_extended, reply_control, segment_number, segment, segment_at}
 use Rattle.uplink_elm.proofs.Laws.{segment-at, segment-at-length, segment_of, parts_of}
 use Rattle.uplink_elm_sending.specs.Sending.{unsealed, transmission, transmissions, segment_count, last_numbers}
@@ -93,20 +99,46 @@ module _ (control n address : ℕ) (segments : List ℕ) (hc : control < 3) (hn 
   ten : length (segment_at segments n) ≡ 10
   ten = segment-at-length segments n fits
 
-  -- what comes back from the copy, and what the seal makes of it
-  pub transmitted : (out ys sealed : List ℕ) (from to : ℕ) → length out ≡ 14 → from ≡ n * 10 → to ≡ from + 10
-      → ys ≡ take (to - from) (drop from segments)
-      → sealed ≡ interrogation_after (put_mid 1 10 (set out 0 (192 + 16 * control + n)) ys) address
-      → sealed ≡ transmission address control n (segment_at segments n)
-  transmitted out ys sealed from to long ef et ey es =
-      es ∙ ap (λ (m : List ℕ). interrogation_after m address) (put-field control n (segment_at segments n) ten out ys long (ey ∙ is))
-      ∙ sealed-with control n (segment_at segments n) ten address ha (omega arith) hn (drop 11 out) (length-drop 11 out ∙ omega (arith, long))
-    where
-      size : to - from ≡ 10
-      size = omega arith
+  module _ (out ys : List ℕ) (from to : ℕ) (long : length out ≡ 14) (ef : from ≡ n * 10) (et : to ≡ from + 10)
+      (ey : ys ≡ take (to - from) (drop from segments)) where
+    -- what comes back from the copy
+    field-put : put_mid 1 10 (set out 0 (192 + 16 * control + n)) ys ≡ with_field control n (segment_at segments n) ten (drop 11 out)
+    field-put = put-field control n (segment_at segments n) ten out ys long (ey ∙ is)
+      where
+        size : to - from ≡ 10
+        size = omega arith
 
-      is : take (to - from) (drop from segments) ≡ segment_at segments n
-      is = ap₂ (λ (x y : ℕ). take x (drop y segments)) size ef ∙ sym (segment-at segments n)
+        is : take (to - from) (drop from segments) ≡ segment_at segments n
+        is = ap₂ (λ (x y : ℕ). take x (drop y segments)) size ef ∙ sym (segment-at segments n)
+
+    three : length (drop 11 out) ≡ 3
+    three = length-drop 11 out ∙ omega (arith, long)
+
+    -- the seal is not refused
+    pub seals : seal_outcome (put_mid 1 10 (set out 0 (192 + 16 * control + n)) ys) address ≡ done
+    unfolding with_field
+    seals =
+        ap (λ (m : List ℕ). seal_outcome m address) field-put
+        ∙ sealable (with_field control n (segment_at segments n) ten (drop 11 out)) address control n ha (omega arith) hn
+        (long-with control n (segment_at segments n) ten (drop 11 out) three) refl
+
+    -- and what it makes of it
+    pub transmitted : (sealed : List ℕ) → sealed ≡ interrogation_after (put_mid 1 10 (set out 0 (192 + 16 * control + n)) ys) address
+        → sealed ≡ transmission address control n (segment_at segments n)
+    transmitted sealed es =
+        es ∙ ap (λ (m : List ℕ). interrogation_after m address) field-put
+        ∙ sealed-with control n (segment_at segments n) ten address ha (omega arith) hn (drop 11 out) three
+
+-- each use of a segment has an RC below 3
+pub number-lt : (c : Control) → number_of c < 3
+number-lt Opening = omega arith
+number-lt Round = omega arith
+number-lt Exchange = omega arith
+
+-- a call that is done is not refused
+pub done_is_ok : (r : Result Unit Refusal) → admission r ≡ done → IsOk r
+done_is_ok (Ok u) e = refl
+done_is_ok (Err f) e = absurd (refusal_is_no_answer e)
 
 -- ---- several
 

@@ -4,8 +4,11 @@ use mathlib.Core.Bool.{true, ◌&&◌}
 use mathlib.Core.List.{List}
 use Prim.Native.Nat.{ℕ, ◌-◌, ◌*◌, ◌^◌, ◌<◌, ◌≤◌}
 use lib.ListN.{length}
-use borrow.Author.Tests.{le-leb}
-use Rattle.outcome.specs.Outcomes.{value}
+use lib.Dec.{eqb}
+use borrow.Author.Tests.{le-leb, eq-eqb}
+use Rattle.outcome.specs.Outcomes.{value, done}
+use Rattle.outcome.specs.Refusals.{not_sendable}
+use Rattle.outcome.proofs.Laws.{unless_passed}
 use Rattle.message.proofs.Laws.{lt-word}
 use Rattle.uplink_elm.specs.Segments.{segment_at}
 use Rattle.uplink_elm_sending.specs.Sending.{transmission, transmissions, segment_count, last_numbers, round_numbers, is_round_size, is_segmented, round_outcome, last_after, opening_after, exchange_after, round_after}
@@ -45,7 +48,10 @@ module _ (address : ℕ) (segments : List ℕ) (ha : address < 2 ^ 24) (e : leng
     pub round-answered : round_outcome address (length segments) acknowledgement s (length (round_numbers acknowledgement (segment_count (length segments)) s) * 14)
         ≡ value (length (round_numbers acknowledgement (segment_count (length segments)) s))
     round-answered =
-        sym (round-sent address (length segments) acknowledgement s _ (lt-word address ha) (is_round_size_lem s one sixteen) _ segmented-so refl refl)
+        sym (round-sent address (length segments) acknowledgement s _ (lt-word address ha) (is_round_size_lem s one sixteen) n' segmented-so refl (sym (unless_passed (eqb (n' * 14) (n' * 14)) not_sendable done (eq-eqb (n' * 14) (n' * 14) refl))))
+      where
+        n' : ℕ
+        n' = length (round_numbers acknowledgement (segment_count (length segments)) s)
 
     pub round-written : (buffer : List ℕ) → length buffer ≡ length (round_numbers acknowledgement (segment_count (length segments)) s) * 14
         → round_after address segments acknowledgement s buffer ≡ transmissions address 1 segments (round_numbers acknowledgement (segment_count (length segments)) s)

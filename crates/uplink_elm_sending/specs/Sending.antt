@@ -1,15 +1,13 @@
 -- The sending end of extended length messages (document 02, Point 10): what each call answers, and what it leaves in the buffer.
 --
 -- A message is ten bytes for each of its segments, which are numbered from 0.
-use Rattle.std.specs.Prelude.{ℕ, zero, suc, ◌+◌, ◌*◌, ◌-◌, ◌/◌, ◌%◌, Bool, cond, ◌&&◌, List, [], ◌∷◌, ◌++◌, eqb, leb, length}
-use Rattle.outcome.specs.Outcomes.{Outcome, value, unless, left}
-use Rattle.outcome.specs.Outcomes.Outcome.{refusal}
+use Rattle.std.specs.Prelude.{ℕ, zero, suc, ◌+◌, ◌*◌, ◌-◌, ◌/◌, ◌%◌, Bool, cond, ◌&&◌, List, [], ◌∷◌, ◌++◌, eqb, leb, length, Result}
+use Rattle.outcome.specs.Outcomes.{Outcome, value, unless, said_by, left}
+use Rattle.outcome.specs.declared.Refusal.{Refusal}
 use Rattle.outcome.specs.Refusals.{word_too_large, not_sendable}
 use Rattle.message.specs.Message.{is_word}
 use Rattle.encoder.specs.Seals.{interrogation_seal}
 use Rattle.uplink_elm.specs.Segments.{is_held, segment_at}
-use Rattle.uplink_elm_sending.specs.declared.Sending.{Sending}
-use Rattle.uplink_elm_sending.specs.declared.Sending.TheVariants.{Sent, Refused}
 
 -- ---- a transmission
 
@@ -60,10 +58,9 @@ round_numbers acknowledgement count s = taken (unacknowledged acknowledgement co
 
 -- ---- what a call answers
 
--- The number of transmissions, or the number of the refusal.
-abbrev pub said : Sending → Outcome
-said (Sent n) = value n
-said (Refused n) = refusal n
+-- The number of transmissions, or the refusal.
+abbrev pub said : Result ℕ Refusal → Outcome
+said = said_by (λ n. value n)
 
 -- 'Checks: 12, s outside 1 to 16, a message not of 2 to 16 whole segments, or a buffer not of 14 bytes for each transmission of that
 -- call'.

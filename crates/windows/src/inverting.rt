@@ -1,10 +1,11 @@
 // A pattern added to the 24 bits of a window, on the part of the message.
-ghost use Rattle.std.specs.Prelude.{◌-◌, ◌*◌, ◌%◌, ◌^◌, ◌≡◌, set};
+ghost use Rattle.std.specs.Prelude.{◌-◌, ◌*◌, ◌%◌, ◌^◌, ◌≡◌};
 ghost use Rattle.windows.specs.Windows.{stored, pattern_added};
 
 use crate::marks::{bits_after, four_bytes};
 
 // Adds a pattern to the window that starts `offset` bits into the part.
+#[tactic(auto, unfolding(crate::specs::Windows::pattern_added))]
 pub fn invert_window(part: &mut [u8], offset: u32, pattern: u32)
     ensures { part.new ≡ pattern_added part.old offset pattern }
 {
@@ -19,20 +20,10 @@ fn aligned(pattern: u32, offset: u32) -> u32
     pattern << bits_after(offset)
 }
 
+// Stores the bytes of a number, as many as there is a place for.
 fn store_four(part: &mut [u8], sum: u32)
     ensures { part.new ≡ stored part.old sum }
 {
-    put_at(part, 0, (sum / 16777216) as u8);
-    put_at(part, 1, (sum / 65536 % 256) as u8);
-    put_at(part, 2, (sum / 256 % 256) as u8);
-    put_at(part, 3, (sum % 256) as u8);
-}
-
-// Stores a byte where there is a place for it.
-fn put_at(part: &mut [u8], i: usize, byte: u8)
-    ensures { part.new ≡ set part.old i byte }
-{
-    if i < part.len() {
-        part[i] = byte;
-    }
+    let count = part.len().min(4);
+    part[..count].copy_from_slice(&sum.to_be_bytes()[..count]);
 }

@@ -9,10 +9,7 @@ use Rattle.uplink_elm_sending.proofs.send_round.Given as goal
 
 abbrev pub invariant-loop-i : goal.invariant-loop-i
 invariant-loop-i l =
-    (l.i ≤ l.n) × (l.from ≤ l.count) × (length l.out ≡ length l.initial.out)
+    (l.from ≤ l.count) × (length l.out ≡ length l.initial.out)
     × (take (l.i * 14) l.out
     ++ transmissions l.address 1 l.segments (taken (failing (is_held l.acknowledgement) 0 l.count) (failing (is_held l.acknowledgement) l.from (l.count - l.from)) (l.n - l.i))
     ≡ transmissions l.address 1 l.segments (round_numbers l.acknowledgement l.count l.n))
-
-abbrev pub decreases-loop-i : goal.decreases-loop-i
-decreases-loop-i l = l.n - l.i

@@ -1,19 +1,25 @@
 -- `uplink_elm_sending::transmit` meets its contract: what the seal leaves of the field that was put together.
-use mathlib.Core.Path.{refl, ◌∙◌}
-use Prim.Native.Nat.{◌+◌, ◌*◌}
-use lib.ListN.{set, length-set}
-use borrow.Rule.Slice.PartMut.{same_len_mid}
-use Rattle.uplink_elm_sending.proofs.Transmitting.{transmitted}
+use mathlib.Core.Path.{◌≡◌, refl, ap, ◌∙◌, subst, sym}
+use Prim.Native.Nat.{ℕ, ◌*◌, ◌<◌}
+use Rattle.uplink_elm.specs.Segments.{segment_at}
+use Rattle.uplink_elm_sending.specs.Sending.{transmission}
+use Rattle.uplink_elm_sending.proofs.Transmitting.{seals, transmitted, number-lt, done_is_ok}
 use Rattle.uplink_elm_sending.proofs.transmit.Goals as goal
 
-pub shape_of-out : goal.shape_of-out
-shape_of-out c =
-    c.seal_interrogation.auto.m
-    ∙ same_len_mid 1 10 (set c.args.out.now 0 (192 + 16 * c.args.control + c.args.number)) c.copy_from_slice.new.self
-    c.copy_from_slice.auto.self
-    ∙ length-set c.args.out.now 0 (192 + 16 * c.args.control + c.args.number)
+pub unwrap-requires : goal.unwrap-requires
+unwrap-requires c =
+    let a = c.args in
+    let lt : c.from.result < 3 = subst (λ (k : ℕ). k < 3) (sym c.from.ensures) (number-lt a.control) in
+    let from : c.from-from.result * 10 ≡ a.number * 10 = ap (λ (k : ℕ). k * 10) c.from-from.ensures in
+    done_is_ok c.seal_interrogation.result
+    (c.seal_interrogation.ensures.result_value
+    ∙ seals c.from.result a.number a.address a.segments.now lt c.requires.number_bound c.requires.address_bound c.requires.number_in_bounds a.out.now _ _ _ c.requires.out_len from refl c.copy_from_slice.ensures.after)
 
 pub returns : goal.returns
 returns c =
-    transmitted c.args.control c.args.number c.args.address c.args.segments.now c.requires.control_bound c.requires.number_bound c.requires.address_bound c.requires.number_in_bounds c.args.out.now _ _ _ _ c.requires.out_len refl refl
-    c.copy_from_slice.ensures.after c.seal_interrogation.ensures.m_after
+    let a = c.args in
+    let lt : c.from.result < 3 = subst (λ (k : ℕ). k < 3) (sym c.from.ensures) (number-lt a.control) in
+    let from : c.from-from.result * 10 ≡ a.number * 10 = ap (λ (k : ℕ). k * 10) c.from-from.ensures in
+    transmitted c.from.result a.number a.address a.segments.now lt c.requires.number_bound c.requires.address_bound c.requires.number_in_bounds a.out.now _ _ _ c.requires.out_len from refl c.copy_from_slice.ensures.after
+    _ c.seal_interrogation.ensures.m_after
+    ∙ ap (λ (x : ℕ). transmission a.address x a.number (segment_at a.segments.now a.number)) c.from.ensures

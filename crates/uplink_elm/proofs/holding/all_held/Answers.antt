@@ -1,37 +1,27 @@
--- `uplink_elm::holding::all_held` meets its contract.
-use mathlib.Core.Path.{◌≡◌, sym, ap, ◌∙◌, subst}
-use mathlib.Core.Bool.{true}
-use Prim.Native.Nat.{ℕ, suc, ◌+◌}
-use native.Mathlib.Omega.{arith}
+-- `uplink_elm::holding::all_held` meets its contract: the definition goes from number to number, and ends with the last.
+use mathlib.Core.Path.{◌≡◌, refl, sym, ap, ◌∙◌}
+use mathlib.Core.Bool.{Bool, ◌&&◌}
+use native.Mathlib.Nat.{sub-zero}
 use borrow.Author.Rules.{rules}
+use borrow.Author.Tests.{tests}
+use Rattle.std.proofs.lemmas.Iterator.{YieldsList-from_range}
+use Rattle.std.proofs.lemmas.Iterator.Search.{all_from_yields_List}
 use Rattle.uplink_elm.specs.Segments.{is_held, all_below}
-use Rattle.uplink_elm.proofs.Numbers.{next-below, not-below, held-lt}
+use Rattle.uplink_elm.proofs.Numbers.{all_below-range}
 use Rattle.uplink_elm.proofs.holding.all_held.Goals as goal
 
-pub loop-held-init : goal.loop-held-init
+pub returns-then-all : goal.returns-then-all
 unfolding all_below
-loop-held-init c = search rules
+returns-then-all c =
+    let below : c.all.result ≡ all_below (is_held c.args.held) c.args.last =
+    all_from_yields_List (is_held c.args.held) _ _ c.all.result c.all.ensures.ran (YieldsList-from_range 0 c.args.last c.args.last refl (sub-zero c.args.last)) (λ x b q k. search (rules, tests))
+    ∙ all_below-range (is_held c.args.held) c.args.last in
+    c.is_held.ensures ∙ ap (λ (t : Bool). t && is_held c.args.held c.args.last) (sym c.if-all.true ∙ below)
 
-pub returns-then-n-last : goal.returns-then-n-last
-returns-then-n-last c =
-    let l = c.loop-held in
-    let is : is_held c.args.held l.n ≡ true = sym c.is_held.ensures ∙ c.loop-held-test.true in
-    sym (next-below _ l.n l.invariant.1 is) ∙ ap (λ (k : ℕ). all_below (is_held c.args.held) (suc k)) c.if-n-last.true
-
-pub overflow_add-n : goal.overflow_add-n
-overflow_add-n c = omega (arith, held-lt _ _ (sym c.is_held.ensures ∙ c.loop-held-test.true))
-
-pub loop-held-smaller : goal.loop-held-smaller
-loop-held-smaller c = omega (arith, held-lt _ _ (sym c.is_held.ensures ∙ c.loop-held-test.true))
-
-pub loop-held-preserved : goal.loop-held-preserved
-loop-held-preserved c =
-    let l = c.loop-held in
-    let is : is_held c.args.held l.n ≡ true = sym c.is_held.ensures ∙ c.loop-held-test.true in
-    let up : suc l.n ≡ l.n + 1 = omega arith in
-    (omega arith, subst (λ (k : ℕ). all_below (is_held c.args.held) k ≡ true) up (next-below _ l.n l.invariant.1 is))
-
-pub returns : goal.returns
-returns c =
-    let l = c.loop-held in
-    not-below _ (suc c.args.last) l.n (omega arith) (sym c.is_held.ensures ∙ c.loop-held-test.false)
+pub returns-else-all : goal.returns-else-all
+unfolding all_below
+returns-else-all c =
+    let below : c.all.result ≡ all_below (is_held c.args.held) c.args.last =
+    all_from_yields_List (is_held c.args.held) _ _ c.all.result c.all.ensures.ran (YieldsList-from_range 0 c.args.last c.args.last refl (sub-zero c.args.last)) (λ x b q k. search (rules, tests))
+    ∙ all_below-range (is_held c.args.held) c.args.last in
+    c.if-all.false ∙ ap (λ (t : Bool). t && is_held c.args.held c.args.last) (sym c.if-all.false ∙ below)

@@ -1,28 +1,26 @@
--- `uplink_elm_sending::choosing::lowest_from` meets its contract.
-use mathlib.Core.Path.{refl, sym, ◌∙◌}
-use native.Mathlib.Omega.{arith}
+-- `uplink_elm_sending::choosing::lowest_from` meets its contract: the first number found is the first of those that fail.
+use mathlib.Core.Path.{◌≡◌, refl, sym, ◌∙◌}
+use mathlib.Core.Bool.{not}
+use Prim.Native.Nat.{ℕ, ◌-◌}
+use borrow.Author.Rules.{rules}
+use borrow.Author.Tests.{tests}
+use Rattle.std.specs.Prelude.{Option, Some, None, option_map}
+use Rattle.std.proofs.lemmas.Iterator.{YieldsList-from_range}
+use Rattle.std.proofs.lemmas.Iterator.Search.{find_from_yields_List}
 use Rattle.uplink_elm.specs.Segments.{is_held}
-use Rattle.uplink_elm_sending.proofs.Numbers.{lowest-here, lowest-past, lowest-none}
+use Rattle.uplink_elm_sending.specs.Choosing.{lowest_from}
+use Rattle.uplink_elm_sending.proofs.Numbers.{find-failing}
 use Rattle.uplink_elm_sending.proofs.choosing.lowest_from.Goals as goal
 
-pub loop-n-init : goal.loop-n-init
-loop-n-init c = (c.requires, refl)
-
-pub returns-then-not-is_held : goal.returns-then-not-is_held
-returns-then-not-is_held c =
-    let l = c.loop-n in
-    lowest-here (is_held c.args.acknowledgement) c.args.count c.args.from l.n c.loop-n-test.true
-    (sym c.is_held.ensures ∙ c.if-not-is_held.true) l.invariant.1
-
-pub loop-n-preserved : goal.loop-n-preserved
-loop-n-preserved c =
-    let l = c.loop-n in (
-      omega arith,
-      l.invariant.1 ∙ lowest-past (is_held c.args.acknowledgement) c.args.count l.n c.loop-n-test.true
-          (sym c.is_held.ensures ∙ c.if-not-is_held.false),
-    )
+kept : (r : Option ℕ) → option_map (λ (n : ℕ). n) r ≡ r
+kept None = refl
+kept (Some n) = refl
 
 pub returns : goal.returns
+unfolding lowest_from
 returns c =
-    let l = c.loop-n in
-    lowest-none (is_held c.args.acknowledgement) c.args.count c.args.from l.n c.loop-n-test.false l.invariant.1
+    let a = c.args in
+    sym (kept c.find.result)
+    ∙ find_from_yields_List (λ (n : ℕ). not (is_held a.acknowledgement n)) _ _ c.find.result c.find.ensures.ran
+    (YieldsList-from_range a.from a.count (a.count - a.from) refl refl) (λ x b q k. search (rules, tests))
+    ∙ find-failing (is_held a.acknowledgement) a.from (a.count - a.from)
