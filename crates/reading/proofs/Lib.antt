@@ -1,5 +1,5 @@
 -- The laws of text as it is read.
-pub mod Searching
 pub mod Splitting
+pub mod Searching
 pub mod Values
 pub mod Laws

@@ -1,18 +1,17 @@
 -- Lines and columns, one after the other.
-use mathlib.Core.Path.{◌≡◌, refl, sym, ap, ◌∙◌}
+use mathlib.Core.Path.{◌≡◌, refl, sym, ap, ap₂, ◌∙◌}
 use mathlib.Core.Bool.{Bool, true, false, cond}
 use mathlib.Core.List.{List, [], ◌∷◌, ◌++◌}
-use Prim.Native.Nat.{ℕ, suc, ◌+◌, ◌-◌, ◌<◌, ◌≤◌}
+use Prim.Native.Nat.{ℕ, suc, ◌+◌, ◌<◌, ◌≤◌}
 use native.Mathlib.Numerals.{add-one}
 use native.Mathlib.Omega.{arith}
-use lib.ListN.{length, take, drop, length-drop}
-use lib.Seq.{take_all, length-take-le, drop-drop}
+use lib.ListN.{length, take, drop}
+use lib.Seq.{take_all}
 use lib.Dec.{eqb, ltb}
 use borrow.Author.Tests.{ltb-true, ltb-false, eq-eqb, ne_eqb}
 use Rattle.text.specs.Ascii.{space, line_feed}
-use Rattle.outcome.proofs.Laws.{part_from}
 use Rattle.text.proofs.Laws.{no_more, picked, passed_over, above, above-parts}
-use Rattle.reading.specs.Lines.{in_first, lines, columns, before}
+use Rattle.reading.specs.Lines.{in_first, lines, columns, before, behind}
 
 -- ---- what stands in front of a byte is a part of the list
 
@@ -137,6 +136,18 @@ unfolding columns
 whole-column [] k e h = refl
 whole-column (x ∷ s) k e h = only-piece space columns (λ x s. refl) (λ x. refl) x s (omega arith)
 
+-- the same of the first piece and of what stands behind it, as `split_once` gives them
+pub columns-split : (s a t : List ℕ) → a ≡ before space s → t ≡ behind space s → length a < length s → columns s ≡ a ∷ columns t
+columns-split s a t e f h =
+    split-column s (length (before space s)) refl (omega (arith, ap length e))
+    ∙ ap₂ (λ (x y : List ℕ). x ∷ columns y) (sym (before-take space s) ∙ sym e) (sym f)
+
+-- and where it finds none
+pub columns-whole : (s : List ℕ) → before space s ≡ s → columns s ≡ s ∷ []
+columns-whole s e = whole-column s (length (before space s)) refl (omega (arith, ap length e))
+
+pub ruleset column_steps = (columns-split, columns-whole)
+
 -- a text of bytes above the space is a column, alone and in front of a space
 pub column_alone : (a : List ℕ) → above space a ≡ true → columns a ≡ a ∷ []
 unfolding columns
@@ -185,6 +196,15 @@ pub no_line_left : (s : List ℕ) (i : ℕ) → length s ≤ i → lines (drop i
 unfolding lines
 no_line_left s i h = ap lines (no_more s i h)
 
+-- the first line of a text that has a byte, and those of what stands behind it
+pub lines-more : (s : List ℕ) → 0 < length s → lines s ≡ before line_feed s ∷ lines (behind line_feed s)
+lines-more s h = split_line s (length (before line_feed s)) refl h ∙ ap (λ (l : List ℕ). l ∷ lines (behind line_feed s)) (sym (before-take line_feed s))
+
+pub lines-none : (s : List ℕ) → length s ≡ 0 → lines s ≡ []
+lines-none s h = no_line_left s 0 (omega arith)
+
+pub ruleset line_steps = (lines-more, lines-none)
+
 -- a text without a line feed, in front of one
 pub line_ends : (a t : List ℕ) → Lacks line_feed a → lines (a ++ line_feed ∷ t) ≡ a ∷ lines t
 unfolding lines
@@ -202,27 +222,25 @@ pub last_line : (x : ℕ) (a : List ℕ) → Lacks line_feed (x ∷ a) → lines
 unfolding lines
 last_line = piece-alone line_feed lines (λ x s. refl) (λ x. refl)
 
--- ---- the lines of a text from a place on, when the search for the line feed in `&text[at..]` found the place k
+-- ---- how long the lines are
 
-module _ (text : List ℕ) (at k : ℕ) (e : k ≡ length (before line_feed (take (length text - at) (drop at text)))) where
-  pub next-line : at < length text
-      → lines (drop at text) ≡ take k (take (length text - at) (drop at text)) ∷ lines (drop (at + k + 1) text)
-  next-line h =
-      let rest : List ℕ = drop at text in
-      let part : take (length text - at) rest ≡ rest = part_from at text in
-      let some : 0 < length rest = omega (arith, length-drop at text) in
-      let sum : at + (k + 1) ≡ at + k + 1 = omega arith in
-      split_line rest k (e ∙ ap (λ (l : List ℕ). length (before line_feed l)) part) some
-      ∙ ap (λ (l : List ℕ). take k l ∷ lines (drop (k + 1) rest)) (sym part)
-      ∙ ap (λ (l : List ℕ). take k (take (length text - at) rest) ∷ lines l)
-      (drop-drop (k + 1) at text ∙ ap (λ (j : ℕ). drop j text) sum)
+-- the bytes of some lines, each with the line feed behind it
+unfoldable pub lines_size : List (List ℕ) → ℕ
+lines_size [] = 0
+lines_size (l ∷ ls) = length l + 1 + lines_size ls
 
-  -- the place found lies within the text
-  pub line-within : at < length text → at + k ≤ length text
-  line-within h =
-      omega (arith, before-le line_feed (take (length text - at) (drop at text)), ap length (part_from at text), length-drop at text)
+pub lines_size-le : (s : List ℕ) → lines_size (lines s) ≤ length s + 1
+unfolding lines lines_size
+lines_size-le [] = omega arith
+lines_size-le (x ∷ s) = cases (eqb x line_feed) (lines s) (lines_size-le s)
+  where
+    cases : (t : Bool) (ls : List (List ℕ)) → lines_size ls ≤ length s + 1 → lines_size (cond t ([] ∷ ls) (in_first x ls)) ≤ suc (length s) + 1
+    cases true ls h = omega arith
+    cases false [] h = omega arith
+    cases false (l ∷ ls) h = omega arith
 
-  pub line_taken : k ≡ length (take k (take (length text - at) (drop at text)))
-  line_taken =
-      let rest : List ℕ = take (length text - at) (drop at text) in
-      sym (length-take-le k rest (omega (arith, before-le line_feed rest)))
+-- a line has one byte at least, its line feed, but the last
+pub length-le-lines_size : (ls : List (List ℕ)) → length ls ≤ lines_size ls
+unfolding lines_size
+length-le-lines_size [] = omega arith
+length-le-lines_size (l ∷ ls) = omega (arith, length-le-lines_size ls)

@@ -1,11 +1,11 @@
 -- Digits, and the numbers and bytes that they write.
 use mathlib.Core.Path.{◌≡◌, refl, sym, ap, ◌∙◌, subst}
 use mathlib.Core.Bool.{Bool, true, false, cond, ◌&&◌, ◌||◌, and-eq-true_iff, and_assoc, and-true}
-use mathlib.Core.List.{List, [], ◌∷◌}
+use mathlib.Core.List.{List, [], ◌∷◌, ◌++◌}
 use Prim.Native.Nat.{ℕ, suc, ◌+◌, ◌-◌, ◌*◌, ◌/◌, ◌%◌, ◌^◌, ◌<◌, ◌≤◌}
-use native.Mathlib.Nat.{pow-suc, mod-mod, mod-eq_of_lt, div-add-mod, add-mul, mul_assoc, add_assoc, mul-add-mod_self_left, mul-le-mul_left, mul-one, one-mul, pow-le-pow_right}
+use native.Mathlib.Nat.{pow-suc, mod-eq_of_lt, div-add-mod, add-mul, mul_assoc, add_assoc, mul-add-mod_self_left, mul-le-mul_left, mul-one, one-mul, pow-le-pow_right}
 use native.Mathlib.Omega.{arith}
-use lib.ListN.{length, get_or, drop}
+use lib.ListN.{length, get_or}
 use lib.Dec.{leb, eqb}
 use borrow.Author.Tests.{leb-true, ne_eqb}
 use Rattle.text.specs.Ascii.{space}
@@ -13,7 +13,8 @@ use Rattle.reading.specs.Lines.{before, columns}
 use Rattle.reading.specs.Digits.{hex_number, decimal_number, is_decimal_digit, is_hex_digit, digit_value, all, number_after, hex_bytes}
 use Rattle.reading.proofs.Splitting.{whole-column}
 use Rattle.outcome.proofs.Laws.{never}
-use Rattle.text.proofs.Laws.{picked, passed_over, next_byte, no_more}
+use Rattle.std.specs.List.{fold}
+use Rattle.text.proofs.Laws.{appending, picked, passed_over}
 
 -- ---- one digit
 
@@ -63,20 +64,14 @@ digit-value-lt b = decimal (is_decimal_digit b) refl
     decimal true e = omega (arith, decimal_range b e)
     decimal false e = letter (is_hex_digit b) e refl
 
--- ---- a test of every byte, from a place on
+pub ruleset digit_values = (value-digit, value_none, digit-value-lt)
 
-module _ (test : ℕ → Bool) (s : List ℕ) (i : ℕ) where
-  -- one byte more
-  pub one-more-tested : i < length s → (so_far here : Bool) → here ≡ test (get_or s i 0)
-      → ((so_far && here) && all test (drop (i + 1) s)) ≡ (so_far && all test (drop i s))
-  unfolding all
-  one-more-tested h so_far here e =
-      and_assoc so_far here (all test (drop (i + 1) s))
-      ∙ ap (λ (t : Bool). so_far && t) (ap (λ (t : Bool). t && all test (drop (i + 1) s)) e ∙ sym (ap (all test) (next_byte s i h)))
+-- ---- a test of every byte
 
-  pub all_tested : length s ≤ i → (so_far : Bool) → so_far ≡ (so_far && all test (drop i s))
-  unfolding all
-  all_tested h so_far = sym (ap (λ (l : List ℕ). so_far && all test l) (no_more s i h) ∙ and-true so_far)
+pub fold-all : (test : ℕ → Bool) (t : Bool) (s : List ℕ) → fold (λ so_far b. so_far && test b) t s ≡ (t && all test s)
+unfolding all
+fold-all test t [] = sym (and-true t)
+fold-all test t (b ∷ s) = fold-all test (t && test b) s ∙ and_assoc t (test b) (all test s)
 
 -- ---- a text of decimal digits is one column, since no digit is a space
 
@@ -92,7 +87,7 @@ no_space (b ∷ s) e =
 pub decimal-column : (s : List ℕ) → all is_decimal_digit s ≡ true → columns s ≡ s ∷ []
 decimal-column s e = whole-column s (length s) (sym (no_space s e)) (omega arith)
 
--- ---- numbers, from a place on
+-- ---- numbers
 
 mod-step : (M v b d : ℕ) → (v * b + d) % M ≡ (v % M * b + d) % M
 mod-step M v b d =
@@ -109,17 +104,14 @@ low_bits M base v w (d ∷ s) e =
     low_bits M base (v * base + digit_value d) (w * base + digit_value d) s
     (mod-step M v base (digit_value d) ∙ ap (λ (x : ℕ). (x * base + digit_value d) % M) e ∙ sym (mod-step M w base (digit_value d)))
 
-pub next-digit : (base v w : ℕ) (s : List ℕ) (i : ℕ) → i < length s → w ≡ (v * base + digit_value (get_or s i 0)) % 2 ^ 32
-    → number_after base w (drop (i + 1) s) % 2 ^ 32 ≡ number_after base v (drop i s) % 2 ^ 32
+-- digits read one after the other, the low 32 bits of each number alone
+pub fold-number : (base v : ℕ) (s : List ℕ) → v < 2 ^ 32
+    → fold (λ v d. (v * base % 2 ^ 32 + digit_value d) % 2 ^ 32) v s ≡ number_after base v s % 2 ^ 32
 unfolding number_after
-next-digit base v w s i h e =
-    low_bits (2 ^ 32) base w (v * base + digit_value (get_or s i 0)) (drop (i + 1) s)
-    (ap (λ (x : ℕ). x % 2 ^ 32) e ∙ mod-mod (v * base + digit_value (get_or s i 0)) (2 ^ 32))
-    ∙ ap (λ (l : List ℕ). number_after base v l % 2 ^ 32) (sym (next_byte s i h))
-
-pub all_digits_read : (base v : ℕ) (s : List ℕ) (i : ℕ) → length s ≤ i → v < 2 ^ 32 → v ≡ number_after base v (drop i s) % 2 ^ 32
-unfolding number_after
-all_digits_read base v s i h k = sym (ap (λ (l : List ℕ). number_after base v l % 2 ^ 32) (no_more s i h) ∙ mod-eq_of_lt k)
+fold-number base v [] h = sym (mod-eq_of_lt h)
+fold-number base v (d ∷ s) h =
+    fold-number base ((v * base % 2 ^ 32 + digit_value d) % 2 ^ 32) s (omega arith)
+    ∙ low_bits (2 ^ 32) base ((v * base % 2 ^ 32 + digit_value d) % 2 ^ 32) (v * base + digit_value d) s (omega arith)
 
 -- a number of k digits in a base up to 16 is below 16^k
 number_bound : (base v b : ℕ) (s : List ℕ) → base ≤ 16 → v < b → number_after base v s < b * 16 ^ length s
@@ -144,23 +136,20 @@ pub decimal_number-whole : (s : List ℕ) → length s ≤ 8 → decimal_number 
 unfolding decimal_number
 decimal_number-whole s h = mod-eq_of_lt (number_fits 10 s (omega arith) h)
 
--- ---- pairs of digits, from a place on
+-- ---- pairs of digits
 
-pub next_pair : (s : List ℕ) (i : ℕ) → i + 1 < length s
-    → hex_bytes (drop i s) ≡ (digit_value (get_or s i 0) * 16 + digit_value (get_or s (i + 1) 0)) ∷ hex_bytes (drop (i + 2) s)
+pub hex_bytes_more : (p s : List ℕ) → length p ≡ 2 → hex_bytes (p ++ s) ≡ (digit_value (get_or p 0 0) * 16 + digit_value (get_or p 1 0)) ∷ hex_bytes s
 unfolding hex_bytes
-next_pair s i h =
-    let e : (i + 1) + 1 ≡ i + 2 = omega arith in
-    ap hex_bytes (next_byte s i (omega arith) ∙ ap (λ (l : List ℕ). get_or s i 0 ∷ l) (next_byte s (i + 1) h ∙ ap (λ (n : ℕ). get_or s (i + 1) 0 ∷ drop n s) e))
+hex_bytes_more (a ∷ b ∷ []) s h = refl
+hex_bytes_more [] s h = absurd (omega arith)
+hex_bytes_more (a ∷ []) s h = absurd (omega arith)
+hex_bytes_more (a ∷ b ∷ c ∷ p) s h = absurd (omega arith)
 
-pub no_pair : (s : List ℕ) (i : ℕ) → i ≤ length s → length s ≤ i + 1 → hex_bytes (drop i s) ≡ []
+pub hex_bytes_short : (s : List ℕ) → length s < 2 → hex_bytes s ≡ []
 unfolding hex_bytes
-no_pair s i h k = short (drop i s) (omega (arith, lib.ListN.length-drop i s))
-  where
-    short : (l : List ℕ) → length l ≤ 1 → hex_bytes l ≡ []
-    short [] k = refl
-    short (a ∷ []) k = refl
-    short (a ∷ b ∷ l) k = absurd (omega arith)
+hex_bytes_short [] h = refl
+hex_bytes_short (a ∷ []) h = refl
+hex_bytes_short (a ∷ b ∷ s) h = absurd (omega arith)
 
 -- half as many bytes as digits
 pub hex_bytes-length : (s : List ℕ) → length (hex_bytes s) ≡ length s / 2
@@ -168,3 +157,5 @@ unfolding hex_bytes
 hex_bytes-length [] = refl
 hex_bytes-length (a ∷ []) = refl
 hex_bytes-length (a ∷ b ∷ s) = omega (arith, hex_bytes-length s)
+
+pub ruleset pairs = (hex_bytes_more, hex_bytes_short, appending)

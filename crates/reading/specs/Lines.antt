@@ -1,5 +1,5 @@
 -- The lines of a text and the columns of a line (document 01, 'The program sift').
-use Rattle.std.specs.Prelude.{ℕ, List, [], ◌∷◌, cond, eqb}
+use Rattle.std.specs.Prelude.{ℕ, ◌+◌, List, [], ◌∷◌, cond, length, drop, eqb}
 use Rattle.text.specs.Ascii.{space, line_feed}
 
 -- the byte b in front of the first of some pieces
@@ -22,3 +22,7 @@ columns (b ∷ bs) = cond (eqb b space) ([] ∷ columns bs) (in_first b (columns
 unfoldable pub before : ℕ → List ℕ → List ℕ
 before s [] = []
 before s (b ∷ bs) = cond (eqb b s) [] (b ∷ before s bs)
+
+-- what stands behind the first s
+abbrev pub behind : ℕ → List ℕ → List ℕ
+behind s bs = drop (length (before s bs) + 1) bs

@@ -4,26 +4,22 @@ ghost use Rattle.reading.specs.Digits.{digit_value, hex_bytes};
 ghost use Rattle.text.specs.Output.{append};
 
 use crate::digits::digit_value;
-use text::put_byte;
+use text::Output;
 
 // The bytes go to the start of the buffer; the answer is their number.
+#[tactic(auto, using(crate::proofs::Values::pairs))]
 pub fn hex_bytes(s: &[u8], out: &mut [u8]) -> usize
     ensures { (out.new, result) ≡ append (out.old, 0) (hex_bytes s.now) }
 {
-    let mut taken: usize = 0;
-    let mut i: usize = 0;
-    while 1 < s.len() - i {
-        let high = s[i];
-        let low = s[i + 1];
-        taken = put_byte(out, taken, byte_of(high, low));
-        i += 2;
+    let mut output = Output::new(out);
+    for pair in s.chunks_exact(2) {
+        output.put_byte(byte_of(pair[0], pair[1]));
     }
-    taken
+    output.taken
 }
 
 fn byte_of(high: u8, low: u8) -> u8
     ensures { result ≡ digit_value high * 16 + digit_value low }
 {
-    let above = digit_value(high) * 16;
-    above + digit_value(low)
+    digit_value(high) * 16 + digit_value(low)
 }

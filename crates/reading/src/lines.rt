@@ -1,31 +1,38 @@
-// Where a line or a column ends, and what stands behind it.
-ghost use Rattle.std.specs.Prelude.{◌+◌, ◌≤◌, ◌≡◌, length, drop};
-ghost use Rattle.reading.specs.Lines.{before};
+// The lines of a text, one after the other.
+ghost use Rattle.std.specs.Prelude.{◌≡◌};
+ghost use Rattle.std.specs.Iterator.{YieldsFirstBy, item_count};
+ghost use Rattle.reading.specs.Lines.{lines};
 
-// The number of bytes in front of the first b, or the length where there is none. The second promise follows from the
-// first: with it a caller takes `&s[..r]` without a proof.
-pub fn find(s: &[u8], b: u8) -> usize
-    ensures value { result ≡ length (before b s.now) }
-    ensures upper_bound { result ≤ length s.now }
-{
-    let mut i: usize = 0;
-    while i < s.len() {
-        if s[i] == b {
-            return i;
-        }
-        i += 1;
-    }
-    i
+use crate::pieces::cut;
+
+// The lines of what is left of a text.
+#[derive(Clone, Debug, Drop)]
+pub struct Lines<'a> {
+    pub rest: &'a [u8],
 }
 
-// What stands behind the byte at `end`: nothing where there is no such byte.
-pub fn after(s: &[u8], end: usize) -> &[u8]
-    ensures { result.now ≡ drop (end + 1) s.now }
-{
-    if end < s.len() {
-        let next = end + 1;
-        &s[next..]
-    } else {
-        &s[0..0]
+impl<'a> Lines<'a> {
+    pub fn new(text: &'a [u8]) -> Lines<'a>
+        ensures { result.rest.now ≡ text.now }
+    {
+        Lines { rest: text }
+    }
+}
+
+impl<'a> Iterator for Lines<'a> {
+    type Item = &'a [u8];
+
+    ghost next_gives = { YieldsFirstBy (λ line. line.now) (λ s. lines s.rest.now) };
+
+    ghost remaining = { item_count (λ s. lines s.rest.now) };
+
+    #[tactic(auto, using(crate::proofs::Splitting::line_steps))]
+    fn next(&mut self) -> Option<&'a [u8]> {
+        if self.rest.is_empty() {
+            return None;
+        }
+        let (line, rest) = cut(self.rest, b'\n');
+        self.rest = rest;
+        Some(line)
     }
 }

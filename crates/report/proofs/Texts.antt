@@ -1,20 +1,19 @@
 -- The texts that the functions append, put together, and their lengths.
-use mathlib.Core.Path.{◌≡◌, refl, sym, ap, ◌∙◌, subst}
+use mathlib.Core.Path.{◌≡◌, refl, sym, ap, ◌∙◌}
 use mathlib.Core.List.{List, [], ◌∷◌, ◌++◌, append_assoc, append-nil}
-use Prim.Native.Nat.{ℕ, ◌+◌, ◌-◌, ◌*◌, ◌<◌, ◌≤◌}
+use Prim.Native.Nat.{ℕ, ◌+◌, ◌*◌, ◌<◌, ◌≤◌}
 use native.Mathlib.Omega.{arith}
-use lib.ListN.{length, take, drop, length-append, length-drop}
-use lib.Seq.{length-take-le}
+use lib.ListN.{length, length-append}
 use lib.Dec.{leb}
 use borrow.Author.Tests.{le-leb, lt-leb}
 use mathlib.Core.Bool.{true, false}
 use Rattle.text.specs.Ascii.{ascii, line_feed, space}
-use Rattle.reading.specs.Lines.{before, columns, lines}
+use Rattle.reading.specs.Lines.{columns, lines}
 use Rattle.text.specs.Output.{Place, append}
 use Rattle.text.specs.Digits.{decimal_text}
 use Rattle.reading.specs.Digits.{hex_bytes, hex_number, decimal_number}
-use Rattle.text.proofs.Laws.{decimal-length, picked, passed_over}
-use Rattle.reading.proofs.Laws.{split-column, whole-column, next-line, no_line_left}
+use Rattle.text.proofs.Laws.{part_done, decimal-length, hex_text-length, picked, passed_over}
+use Rattle.reading.proofs.Laws.{columns_size, columns_size_lem, lines_size}
 use Rattle.request.specs.Requests.{well_formed}
 use Rattle.verdicts.specs.Columns.{spaced}
 use Rattle.verdicts.proofs.Laws.{spaced-nil, spaced-cons, spaced-append}
@@ -31,16 +30,23 @@ called_text cs t =
     ∙ ap (λ (u : List ℕ). spaced cs ++ u) (sym (rw (spaced-cons, spaced-nil) (append-nil (space ∷ t))))
     ∙ sym (spaced-append cs (t ∷ [])))
 
-pub called_length : (v t : List ℕ) → length v ≤ 40 → length t ≤ 28 → length (v ++ (space ∷ []) ++ t ++ (line_feed ∷ [])) ≤ 70
-called_length v t h k =
+pub called_length : (cs : List (List ℕ)) (t : List ℕ) → length (spaced cs) ≤ 40 → length t ≤ 28 → length (line_end (cs ++ t ∷ [])) ≤ 70
+called_length cs t h k =
     omega (
       arith,
-      length-append v (space ∷ []),
-      length-append (v ++ (space ∷ [])) t,
-      length-append (v ++ (space ∷ []) ++ t) (line_feed ∷ []),
+      ap length (called_text cs t),
+      length-append (spaced cs) (space ∷ []),
+      length-append (spaced cs ++ (space ∷ [])) t,
+      length-append (spaced cs ++ (space ∷ []) ++ t) (line_feed ∷ []),
     )
 
+pub ruleset called = (called_text, called_length, hex_text-length)
+
 -- ---- a line's answer
+
+pub malformed_text : ascii " malformed - - - -\n" ≡ answer_text []
+unfolding answer_text answer_columns malformed
+malformed_text = simp (spaced-cons, spaced-nil)
 
 -- the text of a request, its parts replaced by equal ones
 pub same_request : (m m' c c' : List ℕ) (w w' l l' : ℕ) → m ≡ m' → c ≡ c' → w ≡ w' → l ≡ l'
@@ -51,60 +57,41 @@ same_request m m' c c' w w' l l' em ec ew el =
     ∙ ap (λ (x : ℕ). line_end (request_columns m' c' x l)) ew
     ∙ ap (λ (x : ℕ). line_end (request_columns m' c' w' x)) el
 
-pub malformed_text : ascii " malformed - - - -\n" ≡ answer_text []
-unfolding answer_text answer_columns malformed
-malformed_text = simp (spaced-cons, spaced-nil)
+-- the answer to a line by what `Request::of` makes of it: four columns, well-formed or not, or too few
+module _ (line m c w l : List ℕ) (e : columns line ≡ m ∷ c ∷ w ∷ columns l) where
+  pub well_formed_text : well_formed m c w l ≡ true
+      → line_end (request_columns (hex_bytes m) (hex_bytes c) (hex_number w) (decimal_number l)) ≡ answer_text (columns line)
+  unfolding answer_text
+  well_formed_text h =
+      ap (λ (cs : List (List ℕ)). line_end cs) (sym (well_formed_columns m c w l h)) ∙ ap answer_text (sym e)
 
-pub malformed-length : length (answer_text []) ≡ 19
-malformed-length = sym (ap length malformed_text)
+  pub ill_formed_text : well_formed m c w l ≡ false → ascii " malformed - - - -\n" ≡ answer_text (columns line)
+  unfolding answer_text answer_columns
+  ill_formed_text h =
+      malformed_text ∙ ap (λ (cs : List (List ℕ)). line_end cs) (sym (ill_formed_columns m c w l h)) ∙ ap answer_text (sym e)
 
-pub well_formed_text : (m c w l : List ℕ) → well_formed m c w l ≡ true
-    → line_end (request_columns (hex_bytes m) (hex_bytes c) (hex_number w) (decimal_number l)) ≡ answer_text (m ∷ c ∷ w ∷ columns l)
-unfolding answer_text
-well_formed_text m c w l e = ap (λ (cs : List (List ℕ)). line_end cs) (sym (well_formed_columns m c w l e))
+  three_spaces : 3 ≤ length line
+  unfolding columns_size
+  three_spaces = omega (arith, columns_size_lem line, ap columns_size e, columns_size_lem l)
 
-pub ill_formed_text : (m c w l : List ℕ) → well_formed m c w l ≡ false → answer_text [] ≡ answer_text (m ∷ c ∷ w ∷ columns l)
+  -- its three spaces and 70 bytes are within the bound
+  pub request_length : length (answer_text (columns line)) ≤ 70 → length (answer_text (columns line)) ≤ 19 + 24 * length line
+  request_length h = omega (arith, three_spaces)
+
+pub too_few : (cs : List (List ℕ)) → length cs < 4 → answer_text [] ≡ answer_text cs
 unfolding answer_text answer_columns
-ill_formed_text m c w l e = ap (λ (cs : List (List ℕ)). line_end cs) (sym (ill_formed_columns m c w l e))
+too_few [] h = refl
+too_few (a ∷ []) h = refl
+too_few (a ∷ b ∷ []) h = refl
+too_few (a ∷ b ∷ c ∷ []) h = refl
+too_few (a ∷ b ∷ c ∷ d ∷ cs) h = absurd (omega arith)
 
--- one, two and three columns are too few
-pub too_few_1 : (a : List ℕ) → answer_text [] ≡ answer_text (a ∷ [])
-unfolding answer_text answer_columns
-too_few_1 a = refl
+pub too_few_text : (line : List ℕ) → length (columns line) < 4 → ascii " malformed - - - -\n" ≡ answer_text (columns line)
+too_few_text line h = malformed_text ∙ too_few (columns line) h
 
-pub too_few_2 : (a b : List ℕ) → answer_text [] ≡ answer_text (a ∷ b ∷ [])
-unfolding answer_text answer_columns
-too_few_2 a b = refl
-
-pub too_few_3 : (a b c : List ℕ) → answer_text [] ≡ answer_text (a ∷ b ∷ c ∷ [])
-unfolding answer_text answer_columns
-too_few_3 a b c = refl
-
--- ---- one column more: F is the text that the columns found so far make with those still to be found, q the place after it.
--- The text has at most 19 bytes, as a malformed line's answer has, and 24 for each byte left (src/lib.rt).
-
-module _ (F : List (List ℕ) → List ℕ) (start q : Place) (s : List ℕ) (k : ℕ) (e : k ≡ length (before space s)) where
-  pub column-found : (rest : List ℕ) → k < length s → rest ≡ drop (k + 1) s
-      → q ≡ append start (F (take k s ∷ columns rest)) → length (F (take k s ∷ columns rest)) ≤ 19 + 24 * length s
-      → (q ≡ append start (F (columns s))) × (length (F (columns s)) ≤ 19 + 24 * length s)
-  column-found rest h r p b =
-      let split : take k s ∷ columns rest ≡ columns s =
-      ap (λ (l : List ℕ). take k s ∷ columns l) r ∙ sym (split-column s k e h) in (
-        p ∙ ap (λ (cs : List (List ℕ)). append start (F cs)) split,
-        subst (λ (cs : List (List ℕ)). length (F cs) ≤ 19 + 24 * length s) split b,
-      )
-
-  pub column-last : length s ≤ k → q ≡ append start (answer_text []) → answer_text [] ≡ F (s ∷ [])
-      → (q ≡ append start (F (columns s))) × (length (F (columns s)) ≤ 19 + 24 * length s)
-  column-last h p m =
-      let all : answer_text [] ≡ F (columns s) = m ∙ ap F (sym (whole-column s k e h)) in
-      (p ∙ ap (append start) all, omega (arith, malformed-length, ap length all))
-
-pub front_short : (s : List ℕ) (k : ℕ) → k < length s → length (take k s) ≤ length s
-front_short s k h = omega (arith, length-take-le k s (omega arith))
-
-pub rest_short : (s rest : List ℕ) (a : ℕ) → rest ≡ drop a s → length rest ≤ length s
-rest_short s rest a e = omega (arith, ap length e, length-drop a s)
+pub malformed_length : (line : List ℕ) → ascii " malformed - - - -\n" ≡ answer_text (columns line)
+    → length (answer_text (columns line)) ≤ 19 + 24 * length line
+malformed_length line e = omega (arith, ap length e)
 
 -- ---- output lines: of a number of at most 5 digits and an answer, so of 24 bytes for each byte and for the line feed
 
@@ -115,16 +102,34 @@ line_length n line h k =
     let digits : length (decimal_text n) ≤ 5 = decimal-length 4 n (omega arith) in
     omega (arith, length-append (decimal_text n) (answer_text (columns line)))
 
--- the output for what is left of the input: its first line, when the search for the line feed found the place k, and the others
-pub next_output : (input : List ℕ) (at k n : ℕ) → at < length input → k ≡ length (before line_feed (take (length input - at) (drop at input)))
-    → output_lines n (lines (drop at input))
-    ≡ output_line n (take k (take (length input - at) (drop at input))) ++ output_lines (n + 1) (lines (drop (at + k + 1) input))
-unfolding output_lines
-next_output input at k n h e = ap (output_lines n) (next-line input at k e h)
+-- one line more: l, the first of ls, has the number k; the others are numbered on from m
+module _ (n k m : ℕ) (l : List ℕ) (ls ms : List (List ℕ)) (e : ls ≡ l ∷ ms) (ek : k ≡ n) (em : m ≡ n + 1) where
+  next_output : output_lines n ls ≡ output_line k l ++ output_lines m ms
+  unfolding output_lines
+  next_output =
+      ap (output_lines n) e
+      ∙ ap (λ (x : ℕ). output_line x l ++ output_lines (n + 1) ms) (sym ek)
+      ∙ ap (λ (x : ℕ). output_line k l ++ output_lines x ms) (sym em)
 
-pub no_line : (input : List ℕ) (at n : ℕ) → length input ≤ at → output_lines n (lines (drop at input)) ≡ []
-unfolding output_lines
-no_line input at n h = ap (output_lines n) (no_line_left input at h)
+  -- what is left to append
+  pub line_put : (p q : Place) → q ≡ append p (output_line k l) → append q (output_lines m ms) ≡ append p (output_lines n ls)
+  line_put p q f = part_done p q (output_line k l) (output_lines m ms) (output_lines n ls) f next_output
+
+  -- the bound on all of the text
+  pub bound_kept : (all size : ℕ) → all + 24 * lines_size ls ≤ length (output_lines n ls) + size → length (output_line k l) ≤ 24 * (length l + 1)
+      → all + 24 * lines_size ms ≤ length (output_lines m ms) + size
+  unfolding lines_size
+  bound_kept all size h j = omega (arith, h, j, ap lines_size e, ap length next_output, length-append (output_line k l) (output_lines m ms))
+
+-- no line more
+module _ (n : ℕ) (ls : List (List ℕ)) (e : ls ≡ []) where
+  pub no_line : output_lines n ls ≡ []
+  unfolding output_lines
+  no_line = ap (output_lines n) e
+
+  pub bound_reached : (all size : ℕ) → all + 24 * lines_size ls ≤ length (output_lines n ls) + size → all ≤ size
+  unfolding lines_size
+  bound_reached all size h = omega (arith, h, ap lines_size e, ap length no_line)
 
 -- ---- the whole output
 
@@ -140,8 +145,13 @@ output_too_long input h =
     ap (λ (t : List ℕ). header ++ t)
     (sym (passed_over (leb (length input) 65536) (output_lines 1 (lines input)) (ascii "too long\n") (lt-leb (length input) 65536 h)))
 
+pub too_long_length : (input : List ℕ) → 65536 < length input → length (sift_output input) ≤ 1572928
+too_long_length input h = omega (arith, ap length (output_too_long input h))
+
 -- 37 bytes of header and 24 * 65,537 are 1,572,925; 1,572,928 is the next multiple of 64 (src/lib.rt)
 pub output_length : (input : List ℕ) → length input ≤ 65536 → length (output_lines 1 (lines input)) ≤ 24 * (length input + 1)
     → length (sift_output input) ≤ 1572928
 output_length input h k =
     omega (arith, ap length (output_read input h), length-append header (output_lines 1 (lines input)))
+
+pub ruleset outputs = (output_length, too_long_length)

@@ -2,9 +2,8 @@
 // the input apart into lines and columns and calls the sensor; `request` says which lines are well-formed, and
 // `verdicts` writes what the sensor answers.
 //
-// Each function appends to the output buffer: it takes the number of bytes taken already, answers the number taken
-// then, and its contract names the text it appends by a definition of specs/Sift.antt. The second promise of each
-// bounds that text, so that the buffer of `sift` has room for every output.
+// Each function appends to an output, and its contract names the text it appends by a definition of specs/Sift.antt. The
+// second promise of each bounds that text, so that the buffer of `sift` has room for every output.
 //
 // The bound is 24 bytes for each byte of the input. An empty line is one byte, its line feed, and its output has at most 24:
 // 5 digits of the line's number, since there are at most 65,536 lines, and the 19 bytes ` malformed - - - -` with a line
@@ -15,10 +14,11 @@
 #![tactic(auto)]
 
 ghost use Rattle.std.specs.Prelude.{◌≤◌, ◌≡◌, ◌++◌, length, take, drop};
-ghost use Rattle.text.specs.Output.{append};
+ghost use Rattle.text.specs.Output.{Appends};
 ghost use Rattle.report.specs.Sift.{sift_output};
 
 use lines::write_lines;
+use text::Output;
 
 mod answer;
 mod columns;
@@ -33,17 +33,20 @@ pub fn sift(input: &[u8], out: &mut [u8; 1572928]) -> usize
     ensures out_after { out.new ≡ sift_output input.now ++ drop (length (sift_output input.now)) out.old }
     ensures upper_bound { (result ≤ length out.new) × (result ≡ length (take result out.new)) }
 {
-    write_output(input, out)
+    let mut output = Output::new(out);
+    write_output(&mut output, input);
+    output.taken
 }
 
-fn write_output(input: &[u8], out: &mut [u8]) -> usize
-    ensures result_after { (out.new, result) ≡ append (out.old, 0) (sift_output input.now) }
+#[tactic(auto, using(crate::proofs::Texts::outputs))]
+fn write_output(output: &mut Output<'_>, input: &[u8])
+    ensures written { Appends output.old output.new (sift_output input.now) }
     ensures input_len_bound { length (sift_output input.now) ≤ 1572928 }
 {
-    let taken = text::put_bytes(out, 0, b"line answer window bits mark message\n");
+    output.put_bytes(b"line answer window bits mark message\n");
     if input.len() <= 65536 {
-        write_lines(out, taken, input)
+        write_lines(output, input);
     } else {
-        text::put_bytes(out, taken, b"too long\n")
+        output.put_bytes(b"too long\n");
     }
 }

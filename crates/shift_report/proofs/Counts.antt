@@ -1,42 +1,60 @@
--- Counting along the lines of a text: what is left at a place is the line there and what is left behind it.
-use mathlib.Core.Path.{◌≡◌, ap}
-use mathlib.Core.Bool.{Bool, true, false}
+-- Counting the lines of a text.
+use mathlib.Core.Path.{◌≡◌, refl, ap}
+use mathlib.Core.Bool.{Bool, true, false, cond}
 use mathlib.Core.List.{List, [], ◌∷◌, map}
-use Prim.Native.Nat.{ℕ, ◌+◌, ◌-◌, ◌<◌, ◌≤◌}
+use Prim.Native.Nat.{ℕ, suc, ◌+◌, ◌≤◌}
 use native.Mathlib.Omega.{arith}
-use lib.ListN.{length, take, drop}
-use Rattle.text.specs.Ascii.{line_feed}
-use Rattle.reading.specs.Lines.{before}
-use Rattle.reading.proofs.Laws.{next-line, no_line_left}
-use Rattle.shift_report.specs.Tally.{same_text, label, one, how_many}
+use lib.ListN.{length}
+use Rattle.std.specs.List.{filter}
+use Rattle.reading.specs.Lines.{lines}
+use Rattle.reading.proofs.Laws.{lines_size-le, length-le-lines_size}
+use Rattle.shift_report.specs.Tally.{Row, same_text, label, one, how_many}
 use Rattle.shift_report.specs.Printed.{row_of, rows_in}
 
-pub one-le : (t : Bool) → one t ≤ 1
+length-map : (ls : List (List ℕ)) → length (map row_of ls) ≡ length ls
+length-map [] = refl
+length-map (l ∷ ls) = ap suc (length-map ls)
+
+pub length-rows_in : (text : List ℕ) → length (lines text) ≡ length (rows_in text)
+unfolding rows_in
+length-rows_in text = omega (arith, length-map (lines text))
+
+-- those that a test of their row finds
+pub length-filter_rows : (name : List ℕ) (ls : List (List ℕ))
+    → length (filter (λ l. same_text (label (row_of l)) name) ls) ≡ how_many name (map row_of ls)
+unfolding how_many
+length-filter_rows name [] = refl
+length-filter_rows name (l ∷ ls) = cases (same_text (label (row_of l)) name) (length-filter_rows name ls)
+  where
+    rest : List (List ℕ)
+    rest = filter (λ l. same_text (label (row_of l)) name) ls
+
+    cases : (t : Bool) → length rest ≡ how_many name (map row_of ls) → length (cond t (l ∷ rest) rest) ≡ one t + how_many name (map row_of ls)
+    cases true e = omega arith
+    cases false e = omega arith
+
+pub length-filter_lines : (name text : List ℕ)
+    → length (filter (λ l. same_text (label (row_of l)) name) (lines text)) ≡ how_many name (rows_in text)
+unfolding rows_in
+length-filter_lines name text = length-filter_rows name (lines text)
+
+-- a text has no more lines than bytes, and one
+pub rows_in-length-le : (text : List ℕ) → length (rows_in text) ≤ length text + 1
+rows_in-length-le text = omega (arith, length-rows_in text, length-le-lines_size (lines text), lines_size-le text)
+
+one-le : (t : Bool) → one t ≤ 1
 one-le true = omega arith
 one-le false = omega arith
 
-module _ (text : List ℕ) (at k : ℕ) (h : at < length text) (e : k ≡ length (before line_feed (take (length text - at) (drop at text)))) where
-  next_row : rows_in (drop at text) ≡ row_of (take k (take (length text - at) (drop at text))) ∷ rows_in (drop (at + k + 1) text)
-  unfolding rows_in
-  next_row = ap (map row_of) (next-line text at k e h)
+how_many-le : (name : List ℕ) (rs : List Row) → how_many name rs ≤ length rs
+unfolding how_many
+how_many-le name [] = omega arith
+how_many-le name (r ∷ rs) = omega (arith, how_many-le name rs, one-le (same_text (label r) name))
 
-  pub one-row : length (rows_in (drop at text)) ≡ 1 + length (rows_in (drop (at + k + 1) text))
-  one-row = omega (arith, ap length next_row)
+pub counted-le : (name text : List ℕ) → how_many name (rows_in text) ≤ length text + 1
+counted-le name text = omega (arith, how_many-le name (rows_in text), rows_in-length-le text)
 
-  pub one-counted : (name : List ℕ)
-      → how_many name (rows_in (drop at text))
-      ≡ one (same_text (label (row_of (take k (take (length text - at) (drop at text))))) name) + how_many name (rows_in (drop (at + k + 1) text))
-  unfolding how_many
-  one-counted name = ap (how_many name) next_row
+pub lines-length-le : (text : List ℕ) → length (lines text) ≤ length text + 1
+lines-length-le text = omega (arith, length-rows_in text, rows_in-length-le text)
 
-module _ (text : List ℕ) (at : ℕ) (h : length text ≤ at) where
-  no_row : rows_in (drop at text) ≡ []
-  unfolding rows_in
-  no_row = ap (map row_of) (no_line_left text at h)
-
-  pub no-row-left : length (rows_in (drop at text)) ≡ 0
-  no-row-left = ap length no_row
-
-  pub none-counted : (name : List ℕ) → how_many name (rows_in (drop at text)) ≡ 0
-  unfolding how_many
-  none-counted name = ap (how_many name) no_row
+pub ruleset counting = (length-rows_in, rows_in-length-le, counted-le, lines-length-le)

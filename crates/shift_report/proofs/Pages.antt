@@ -10,7 +10,7 @@ use borrow.Author.Tests.{le-leb, lt-leb}
 use Rattle.text.specs.Ascii.{ascii, space, line_feed}
 use Rattle.text.specs.Digits.{decimal_text}
 use Rattle.text.specs.Output.{Place, append}
-use Rattle.text.proofs.Laws.{and_then, all_done, picked, passed_over}
+use Rattle.text.proofs.Laws.{decimal-length, and_then, all_done, picked, passed_over}
 use Rattle.shift_report.specs.Tally.{Row, rows, how_many, page_line, names, counts, page, tally_output}
 
 line_length : (name : List ℕ) (n : ℕ) → length (decimal_text n) ≤ 10 → length (page_line name n) ≤ length name + 12
@@ -22,6 +22,9 @@ line_length name n h =
       length-append (name ++ (space ∷ [])) (decimal_text n),
       length-append (name ++ (space ∷ []) ++ decimal_text n) (line_feed ∷ []),
     )
+
+pub ten_digits : (n : ℕ) → n < 10000000000 → length (decimal_text n) ≤ 10
+ten_digits n h = decimal-length 9 n (omega arith)
 
 -- ---- the counts, from the last on
 

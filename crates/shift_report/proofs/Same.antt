@@ -1,11 +1,12 @@
 -- The test whether two texts are the same holds exactly where they are equal, so a function that answers one answers the
 -- other.
-use mathlib.Core.Path.{◌≡◌, refl, sym, ap, ap₂, ◌∙◌}
-use mathlib.Core.Bool.{Bool, true, false, ◌&&◌, and-eq-true_iff}
+use mathlib.Core.Path.{◌≡◌, refl, ap, ap₂}
+use mathlib.Core.Bool.{Bool, true, ◌&&◌, and-eq-true_iff}
 use mathlib.Core.List.{List, [], ◌∷◌}
 use Prim.Native.Nat.{ℕ}
 use lib.Dec.{eqb}
 use borrow.Author.Tests.{eqb-true, eq-eqb}
+use Rattle.std.specs.Cmp.Lexicographic.{pointwise}
 use Rattle.outcome.proofs.Laws.{never}
 use Rattle.shift_report.specs.Tally.{same_text}
 
@@ -23,10 +24,10 @@ same_equal (x ∷ a) (y ∷ b) e =
     let both = (and-eq-true_iff (eqb x y) (same_text a b)).0 e in
     ap₂ ◌∷◌ (eqb-true x y both.0) (same_equal a b both.1)
 
-pub same_is : (a b : List ℕ) (r : Bool) → (r ≡ true → a ≡ b) → (a ≡ b → r ≡ true) → r ≡ same_text a b
-same_is a b true f g = sym (ap (same_text a) (sym (f refl)) ∙ same_itself a)
-same_is a b false f g = by (same_text a b) refl
-  where
-    by : (t : Bool) → same_text a b ≡ t → false ≡ same_text a b
-    by true e = absurd (never (g (same_equal a b e)) refl)
-    by false e = sym e
+-- `==` of two slices is that test
+pub pointwise-same : (a b : List ℕ) → pointwise eqb a b ≡ same_text a b
+unfolding same_text
+pointwise-same [] [] = refl
+pointwise-same [] (y ∷ b) = refl
+pointwise-same (x ∷ a) [] = refl
+pointwise-same (x ∷ a) (y ∷ b) = ap (λ (t : Bool). eqb x y && t) (pointwise-same a b)

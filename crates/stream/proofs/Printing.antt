@@ -1,5 +1,6 @@
 -- What is printed and held, byte by byte from a place on, and how long a line of output is.
-use mathlib.Core.Path.{◌≡◌, refl, sym, ap, ◌∙◌}
+use mathlib.Core.Path.{◌≡◌, sym, ap, ◌∙◌}
+use mathlib.Core.Bool.{Bool, true, false, cond}
 use mathlib.Core.List.{List, [], ◌∷◌, ◌++◌}
 use Prim.Native.Nat.{ℕ, ◌+◌, ◌*◌, ◌<◌, ◌≤◌}
 use native.Mathlib.Omega.{arith}
@@ -7,9 +8,8 @@ use lib.ListN.{length, take, drop, get_or, length-append}
 use lib.Dec.{eqb, leb}
 use borrow.Author.Tests.{eq-eqb, ne_eqb, le-leb, lt-leb}
 use Rattle.text.specs.Ascii.{line_feed}
-use Rattle.text.specs.Output.{Place, append}
 use Rattle.text.specs.Digits.{decimal_text}
-use Rattle.text.proofs.Laws.{decimal-length, picked, passed_over, next_byte, no_more, all_done}
+use Rattle.text.proofs.Laws.{append-none, decimal-length, picked, passed_over, next_byte, no_more}
 use Rattle.reading.specs.Lines.{columns}
 use Rattle.report.specs.Sift.{answer_text, output_line}
 use Rattle.report.proofs.Laws.{line_text_lem}
@@ -22,6 +22,11 @@ pub line_length : (n : ℕ) (line : List ℕ) → n < 10000000000000000000 → l
 line_length n line h k =
     let digits : length (decimal_text n) ≤ 19 = decimal-length 18 n h in
     omega (arith, ap length (line_text_lem n line), length-append (decimal_text n) (answer_text (columns line)))
+
+pub output_line_text : (n : ℕ) (line : List ℕ) → decimal_text n ++ answer_text (columns line) ≡ output_line n line
+output_line_text n line = sym (line_text_lem n line)
+
+pub ruleset line_steps = (line_length, output_line_text)
 
 -- ---- a byte that is a line feed, and one that is not
 
@@ -41,6 +46,8 @@ module _ (h : Held) (b : ℕ) where
   pub printed-kept : (b ≡ 10 → ⊥) → printed_at_byte h b ≡ []
   unfolding printed_at_byte
   printed-kept e = passed_over (eqb b line_feed) (output_line (h.0 + 1) h.1) [] (ne_eqb b line_feed e)
+
+pub ruleset byte_steps = (held-ended, held_kept, printed_ended, printed-kept, append-none)
 
 -- ---- the bytes of a piece, from a place on
 
@@ -83,7 +90,12 @@ module _ (h : Held) where
   unfolding printed_at_end
   no-last-line k = picked (leb (length h.1) 0) [] (output_line (h.0 + 1) h.1) (le-leb (length h.1) 0 k)
 
--- ---- appending no text
+  pub end-length : (n : ℕ) → length (output_line (h.0 + 1) h.1) ≤ n → length (printed_at_end h) ≤ n
+  unfolding printed_at_end
+  end-length n k = cases (leb (length h.1) 0)
+    where
+      cases : (t : Bool) → length (cond t [] (output_line (h.0 + 1) h.1)) ≤ n
+      cases true = omega arith
+      cases false = k
 
-pub nothing_put : (p : Place) (t : List ℕ) → t ≡ [] → p ≡ append p t
-nothing_put p t e = all_done p p t t e refl
+pub ruleset end_steps = (last_line, no-last-line, append-none)

@@ -1,11 +1,11 @@
 -- A call that is refused, and one that is not: what it prints and what is held after it.
-use mathlib.Core.Path.{◌≡◌, refl, ap₂}
+use mathlib.Core.Path.{◌≡◌, refl, ap, ap₂}
 use mathlib.Core.Bool.{Bool, true, false, ◌||◌}
 use mathlib.Core.List.{List, []}
 use Prim.Native.Nat.{ℕ, ◌^◌, ◌≤◌, ◌<◌}
 use lib.ListN.{length}
 use lib.Dec.{leb, ltb}
-use borrow.Author.Tests.{leb-false, ltb-false, lt-leb, le-ltb}
+use borrow.Author.Tests.{leb-false, ltb-false, lt-leb, le-ltb, le-leb, lt-ltb}
 use Rattle.text.proofs.Laws.{picked, passed_over}
 use Rattle.stream.specs.Stream.{Held, held_after, printed, printed_at_end, is_refused, feed_text, feed_held, finish_text}
 
@@ -52,3 +52,15 @@ pub is_not-refused : (ended : ℕ) (piece : List ℕ) → ended < 2 ^ 63 → len
 unfolding is_refused
 is_not-refused ended piece h k =
     ap₂ ◌||◌ (lt-leb (2 ^ 63) ended h) (le-ltb 4096 (length piece) k)
+
+-- ---- for the tactics
+
+pub refused_lines : (ended : ℕ) (piece : List ℕ) → 2 ^ 63 ≤ ended → is_refused ended piece ≡ true
+unfolding is_refused
+refused_lines ended piece h = ap (λ (t : Bool). t || ltb 4096 (length piece)) (le-leb (2 ^ 63) ended h)
+
+pub refused_piece : (ended : ℕ) (piece : List ℕ) → ended < 2 ^ 63 → 4096 < length piece → is_refused ended piece ≡ true
+unfolding is_refused
+refused_piece ended piece h k = ap₂ ◌||◌ (lt-leb (2 ^ 63) ended h) (lt-ltb 4096 (length piece) k)
+
+pub ruleset admitting = (refused_lines, refused_piece, is_not-refused)

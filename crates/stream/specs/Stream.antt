@@ -4,7 +4,7 @@
 use Rattle.std.specs.Prelude.{ℕ, ◌+◌, ◌^◌, List, [], ◌∷◌, ◌++◌, Bool, cond, ◌||◌, length, take, eqb, leb, ltb}
 use Rattle.text.specs.Ascii.{line_feed}
 use Rattle.report.specs.Sift.{output_line}
-use Rattle.stream.specs.declared.State.{State}
+use Rattle.stream.specs.declared.state.State.{State}
 
 -- ---- what is held between two pieces
 

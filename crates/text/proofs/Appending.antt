@@ -8,9 +8,14 @@ use native.Mathlib.Omega.{arith}
 use lib.ListN.{length, take, drop, set, length-set, length-append}
 use lib.Seq.{sets, sets-eq, take_at, length-take-le}
 use lib.Dec.{ltb}
-use borrow.Author.Tests.{lt-ltb, le-ltb}
-use Rattle.text.specs.Output.{Place, append_byte, append}
-use Rattle.text.proofs.Parts.{picked, passed_over}
+use borrow.Author.Tests.{lt-ltb}
+use Rattle.text.specs.declared.output.Output.{Output}
+use Rattle.text.specs.Output.{Place, append_byte, append, place, Appends}
+use Rattle.text.proofs.Parts.{picked}
+
+pub append-none : (p : Place) → append p [] ≡ p
+unfolding append
+append-none p = refl
 
 pub append-append : (p : Place) (s t : List ℕ) → append (append p s) t ≡ append p (s ++ t)
 unfolding append
@@ -18,6 +23,17 @@ append-append p [] t = refl
 append-append p (b ∷ s) t = append-append (append_byte p b) s t
 
 -- a text and then another
+pub appends_both : (a b c : Output) (s t : List ℕ) → Appends a b s → Appends b c t → Appends a c (s ++ t)
+appends_both a b c s t e f = record {
+  same_buffer = f.same_buffer ∙ e.same_buffer;
+  appended = f.appended ∙ ap (λ (x : Place). append x t) e.appended ∙ append-append (place a) s t;
+}
+
+pub appends_same : (a b : Output) (s t : List ℕ) → s ≡ t → Appends a b s → Appends a b t
+appends_same a b s t e f = record { same_buffer = f.same_buffer; appended = f.appended ∙ ap (append (place a)) e }
+
+pub ruleset appending = (append-append, append-none)
+
 pub and_then : (p q r : Place) (s t : List ℕ) → q ≡ append p s → r ≡ append q t → r ≡ append p (s ++ t)
 and_then p q r s t e f = f ∙ ap (λ (x : Place). append x t) e ∙ append-append p s t
 
@@ -29,15 +45,6 @@ part_done p q s t u e f = ap (λ (x : Place). append x t) e ∙ append-append p 
 pub all_done : (p q : Place) (t u : List ℕ) → t ≡ [] → append p t ≡ append q u → p ≡ append q u
 unfolding append
 all_done p q t u e f = sym (ap (append p) e) ∙ f
-
--- a byte that has a place, and one that has none
-pub byte_placed : (buf : List ℕ) (at b : ℕ) → at < length buf → (set buf at b, at + 1) ≡ append (buf, at) (b ∷ [])
-unfolding append append_byte
-byte_placed buf at b h = sym (picked (ltb at (length buf)) (set buf at b, at + 1) (buf, at) (lt-ltb at (length buf) h))
-
-pub byte_left_out : (buf : List ℕ) (at b : ℕ) → length buf ≤ at → ◌≡◌ {A = Place} (buf, at) (append (buf, at) (b ∷ []))
-unfolding append append_byte
-byte_left_out buf at b h = sym (passed_over (ltb at (length buf)) (set buf at b, at + 1) (buf, at) (le-ltb at (length buf) h))
 
 -- a text that fits is stored byte by byte
 append_sets : (s buf : List ℕ) (at : ℕ) → at + length s ≤ length buf → append (buf, at) s ≡ (sets buf at s, at + length s)
@@ -77,3 +84,12 @@ taken-le s buf last n h e =
 
 pub taken_size : (s buf last : List ℕ) (n : ℕ) → length s ≤ length buf → (last, n) ≡ append (buf, 0) s → n ≡ length (take n last)
 taken_size s buf last n h e = sym (length-take-le n last (taken-le s buf last n h e))
+
+-- an output that was at the start of its buffer: how many bytes are taken, what the buffer holds, and that the bytes taken are a
+-- part of it
+pub from_start : (a b : Output) (buf s : List ℕ) → place a ≡ (buf, 0) → Appends a b s → length s ≤ length buf
+    → (b.taken ≡ length s) × (b.buffer.now ≡ s ++ drop (length s) buf) × (b.taken ≤ length b.buffer.now) × (b.taken ≡ length (take b.taken b.buffer.now))
+from_start a b buf s e f h =
+    let put : place b ≡ append (buf, 0) s = f.appended ∙ ap (λ (p : Place). append p s) e in
+    let held = at-start s buf b.buffer.now b.taken h put in
+    (held.0, held.1, taken-le s buf b.buffer.now b.taken h put, taken_size s buf b.buffer.now b.taken h put)

@@ -1,36 +1,24 @@
 -- The digits of a value below 16, of bytes, and of a number.
-use mathlib.Core.Path.{◌≡◌, refl, sym, ap, ◌∙◌}
+use mathlib.Core.Path.{◌≡◌, refl, ap, ◌∙◌}
 use mathlib.Core.Bool.{Bool, true, false, cond}
 use mathlib.Core.List.{List, [], ◌∷◌, ◌++◌}
-use Prim.Native.Nat.{ℕ, zero, suc, ◌+◌, ◌*◌, ◌/◌, ◌%◌, ◌^◌, ◌<◌, ◌≤◌}
+use Prim.Native.Nat.{ℕ, zero, suc, ◌*◌, ◌/◌, ◌%◌, ◌^◌, ◌<◌, ◌≤◌}
 use native.Mathlib.Nat.{pow-suc}
 use native.Mathlib.Omega.{arith}
-use lib.ListN.{length, get_or, drop, length-append}
+use lib.ListN.{length, length-append}
 use lib.Dec.{ltb}
 use borrow.Author.Tests.{ltb-true, ltb-false, lt-ltb, le-ltb}
 use Rattle.text.specs.Digits.{digit_of, hex_text, decimal_within, decimal_text}
-use Rattle.text.proofs.Parts.{picked, passed_over, next_byte, no_more}
-
--- ---- one digit
-
-pub digit_low : (v : ℕ) → v < 10 → 48 + v ≡ digit_of v
-unfolding digit_of
-digit_low v h = sym (picked (ltb v 10) (48 + v) (55 + v) (lt-ltb v 10 h))
-
-pub digit_high : (v : ℕ) → 10 ≤ v → 55 + v ≡ digit_of v
-unfolding digit_of
-digit_high v h = sym (passed_over (ltb v 10) (48 + v) (55 + v) (le-ltb v 10 h))
+use Rattle.text.proofs.Parts.{picked, passed_over}
 
 -- ---- the digits of bytes and of a word
 
-pub next_hex : (s : List ℕ) (i : ℕ) → i < length s
-    → hex_text (drop i s) ≡ (digit_of (get_or s i 0 / 16) ∷ digit_of (get_or s i 0 % 16) ∷ []) ++ hex_text (drop (i + 1) s)
+pub hex_text-append : (s t : List ℕ) → hex_text (s ++ t) ≡ hex_text s ++ hex_text t
 unfolding hex_text
-next_hex s i h = ap hex_text (next_byte s i h)
+hex_text-append [] t = refl
+hex_text-append (b ∷ s) t = ap (λ (l : List ℕ). digit_of (b / 16) ∷ digit_of (b % 16) ∷ l) (hex_text-append s t)
 
-pub no_hex : (s : List ℕ) (i : ℕ) → length s ≤ i → hex_text (drop i s) ≡ []
-unfolding hex_text
-no_hex s i h = ap hex_text (no_more s i h)
+pub ruleset hex_appending = (hex_text-append)
 
 pub hex_text-length : (s : List ℕ) → length (hex_text s) ≡ 2 * length s
 unfolding hex_text
@@ -65,6 +53,8 @@ more_digits n h =
     passed_over (ltb n 10) (digit_of n ∷ []) (decimal_within n (n / 10) ++ digit_of (n % 10) ∷ []) (le-ltb n 10 h)
     ∙ ap (λ (l : List ℕ). l ++ digit_of (n % 10) ∷ []) (decimal_bound n (suc (n / 10)) (n / 10) (omega arith) (omega arith))
 
+pub ruleset decimal_steps = (one-digit, more_digits)
+
 -- a number below a power of ten has at most that many digits
 pub decimal-length : (k n : ℕ) → n < 10 ^ k * 10 → length (decimal_text n) ≤ suc k
 decimal-length zero n h = omega (arith, ap length (one-digit n (omega arith)))
@@ -75,3 +65,7 @@ decimal-length (suc k) n h = cases (ltb n 10) refl (decimal-length k (n / 10))
     cases false e f =
         let below : n / 10 < 10 ^ k * 10 = omega (arith, pow-suc 10 k) in
         omega (arith, f below, ap length (more_digits n (ltb-false n 10 e)), length-append (decimal_text (n / 10)) (digit_of (n % 10) ∷ []))
+
+-- a number of 32 bits
+pub ten_digits : (n : ℕ) → n < 2 ^ 32 → length (decimal_text n) ≤ 10
+ten_digits n h = decimal-length 9 n (omega arith)

@@ -1,5 +1,6 @@
 -- Appending to a buffer: a place is a buffer with the number of its bytes that are taken.
-use Rattle.std.specs.Prelude.{ℕ, ◌+◌, List, [], ◌∷◌, cond, length, set, ltb}
+use Rattle.std.specs.Prelude.{ℕ, ◌+◌, ◌≡◌, List, [], ◌∷◌, cond, length, set, ltb}
+use Rattle.text.specs.declared.output.Output.{Output}
 
 abbrev pub Place : Type 0
 Place = List ℕ × ℕ
@@ -12,3 +13,13 @@ append_byte p b = cond (ltb p.1 (length p.0)) (set p.0 p.1 b, p.1 + 1) p
 unfoldable pub append : Place → List ℕ → Place
 append p [] = p
 append p (b ∷ bs) = append (append_byte p b) bs
+
+-- ---- an output, which is a place in a lent buffer
+
+abbrev pub place : Output → Place
+place o = (o.buffer.now, o.taken)
+
+-- It has lent the same buffer, and a text has been appended.
+pub record Appends (old new : Output) (s : List ℕ) : Type 0 where
+  pub same_buffer : new.buffer.ghost_name ≡ old.buffer.ghost_name
+  pub appended : place new ≡ append (place old) s

@@ -1,85 +1,94 @@
-// Appending to a buffer: bytes, and numbers as digits.
-ghost use Rattle.std.specs.Prelude.{◌≡◌, [], ◌∷◌, ◌/◌, ◌%◌, ◌<◌};
-ghost use Rattle.text.specs.Digits.{digit_of, hex_text, word_text, decimal_text};
-ghost use Rattle.text.specs.Output.{append};
+// A lent buffer that bytes are appended to, and numbers as digits.
+ghost use Rattle.std.specs.Prelude.{◌≡◌, [], ◌∷◌, ◌<◌};
+ghost use Rattle.text.specs.Digits.{digit_of, hex_text, word_text, decimal_text, signed_text};
+ghost use Rattle.text.specs.Output.{Appends, place};
 
-// A full buffer stays as it is.
-pub fn put_byte(out: &mut [u8], taken: usize, b: u8) -> usize
-    ensures { (out.new, result) ≡ append (out.old, taken) (b ∷ []) }
-{
-    if taken < out.len() {
-        out[taken] = b;
-        taken + 1
-    } else {
-        taken
+// The fields take any values: where more bytes are said to be taken than there are, the buffer is full.
+#[derive(Debug, Drop)]
+pub struct Output<'a> {
+    pub buffer: &'a mut [u8],
+    pub taken: usize,
+}
+
+impl<'a> Output<'a> {
+    // No byte is taken yet.
+    pub fn new(buffer: &'a mut [u8]) -> Output<'a>
+        ensures same_buffer { result.buffer.ghost_name ≡ buffer.entry.ghost_name }
+        ensures none_taken { place result ≡ (buffer.old, 0) }
+    {
+        Output { buffer, taken: 0 }
     }
-}
 
-// As many of the bytes as there is room for.
-pub fn put_bytes(out: &mut [u8], taken: usize, s: &[u8]) -> usize
-    ensures { (out.new, result) ≡ append (out.old, taken) s.now }
-{
-    let mut next = taken;
-    let mut i: usize = 0;
-    while i < s.len() {
-        next = put_byte(out, next, s[i]);
-        i += 1;
+    // A full buffer stays as it is.
+    #[tactic(auto, unfolding(crate::specs::Output::append, crate::specs::Output::append_byte))]
+    pub fn put_byte(&mut self, b: u8)
+        ensures { Appends self.old self.new (b ∷ []) }
+    {
+        if self.taken < self.buffer.len() {
+            self.buffer[self.taken] = b;
+            self.taken += 1;
+        }
     }
-    next
-}
 
-// Two digits for each byte.
-pub fn put_hex(out: &mut [u8], taken: usize, s: &[u8]) -> usize
-    ensures { (out.new, result) ≡ append (out.old, taken) (hex_text s.now) }
-{
-    let mut next = taken;
-    let mut i: usize = 0;
-    while i < s.len() {
-        next = put_pair(out, next, s[i]);
-        i += 1;
+    // As many of the bytes as there is room for.
+    #[tactic(auto, using(crate::proofs::Appending::appending, std::proofs::lemmas::Grind::common_steps))]
+    pub fn put_bytes(&mut self, s: &[u8])
+        ensures { Appends self.old self.new s.now }
+    {
+        for &b in s {
+            self.put_byte(b);
+        }
     }
-    next
-}
 
-fn put_pair(out: &mut [u8], taken: usize, b: u8) -> usize
-    ensures { (out.new, result) ≡ append (out.old, taken) (digit_of (b / 16) ∷ digit_of (b % 16) ∷ []) }
-{
-    let next = put_byte(out, taken, digit_of(b / 16));
-    put_byte(out, next, digit_of(b % 16))
-}
+    // Two digits for each byte.
+    #[tactic(auto, using(crate::proofs::Appending::appending, crate::proofs::Spelling::hex_appending, std::proofs::lemmas::Grind::common_steps), unfolding(crate::specs::Digits::hex_text))]
+    pub fn put_hex(&mut self, s: &[u8])
+        ensures { Appends self.old self.new (hex_text s.now) }
+    {
+        for &b in s {
+            self.put_byte(digit_of(b / 16));
+            self.put_byte(digit_of(b % 16));
+        }
+    }
 
-// The six digits of a word of 24 bits.
-pub fn put_word(out: &mut [u8], taken: usize, w: u32) -> usize
-    ensures { (out.new, result) ≡ append (out.old, taken) (word_text w) }
-{
-    let next = put_pair(out, taken, (w / 65536 % 256) as u8);
-    let last = put_pair(out, next, (w / 256 % 256) as u8);
-    put_pair(out, last, (w % 256) as u8)
-}
+    // The six digits of a word of 24 bits.
+    #[tactic(auto, unfolding(crate::specs::Digits::word_text))]
+    pub fn put_word(&mut self, w: u32)
+        ensures { Appends self.old self.new (word_text w) }
+    {
+        let [_, high, middle, low] = w.to_be_bytes();
+        self.put_hex(&[high, middle, low]);
+    }
 
-// Without leading zeros.
-pub fn put_decimal(out: &mut [u8], taken: usize, n: u32) -> usize
-    ensures { (out.new, result) ≡ append (out.old, taken) (decimal_text n) }
-{
-    put_long_decimal(out, taken, n as u64)
-}
+    // Without leading zeros. A number has its digits but the last, if it has more than one, and then the last.
+    #[tactic(auto, using(crate::proofs::Appending::appending, crate::proofs::Spelling::decimal_steps))]
+    pub fn put_decimal(&mut self, n: u64)
+        ensures { Appends self.old self.new (decimal_text n) }
+    {
+        if n >= 10 {
+            self.put_decimal(n / 10);
+        }
+        // a remainder below ten, which a `u8::try_from` would only test again
+        self.put_byte(digit_of((n % 10) as u8));
+    }
 
-// The same of a number of 64 bits. A number has its digits but the last, if it has more than one, and then the last.
-pub fn put_long_decimal(out: &mut [u8], taken: usize, n: u64) -> usize
-    ensures { (out.new, result) ≡ append (out.old, taken) (decimal_text n) }
-{
-    if n < 10 {
-        put_byte(out, taken, digit_of(n as u8))
-    } else {
-        let next = put_long_decimal(out, taken, n / 10);
-        put_byte(out, next, digit_of((n % 10) as u8))
+    // With `-` in front of a negative number.
+    #[tactic(auto, using(crate::proofs::Appending::appending, crate::proofs::Signs::signed_steps))]
+    pub fn put_signed(&mut self, z: i32)
+        ensures { Appends self.old self.new (signed_text z) }
+    {
+        if z < 0 {
+            self.put_byte(b'-');
+        }
+        self.put_decimal(u64::from(z.unsigned_abs()));
     }
 }
 
 // The digit of a value below 16.
+#[tactic(auto, unfolding(crate::specs::Digits::digit_of))]
 fn digit_of(v: u8) -> u8
     requires { v < 16 }
     ensures { result ≡ digit_of v }
 {
-    if v < 10 { 48 + v } else { 55 + v }
+    if v < 10 { b'0' + v } else { b'A' + (v - 10) }
 }

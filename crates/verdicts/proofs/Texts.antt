@@ -1,5 +1,5 @@
 -- The texts that the functions append, as columns, and their lengths.
-use mathlib.Core.Path.{◌≡◌, refl, sym, ap, ◌∙◌, subst}
+use mathlib.Core.Path.{◌≡◌, refl, sym, ap, ◌∙◌}
 use mathlib.Core.List.{List, [], ◌∷◌, ◌++◌, append_assoc, append-nil}
 use Prim.Native.Nat.{ℕ, ◌≤◌}
 use native.Mathlib.Omega.{arith}
@@ -8,11 +8,8 @@ use lib.Dec.{eqb}
 use mathlib.Core.Bool.{Bool, true, false, cond}
 use Rattle.text.specs.Ascii.{ascii, space}
 use Rattle.text.specs.Digits.{decimal_text}
-use Rattle.text.specs.Output.{Place, append}
 use Rattle.outcome.specs.Outcomes.Outcome.{refusal}
-use Rattle.sensor.specs.Verdicts.{sole_mark, several_mark, clean_answer, dense_answer, no_fit_answer, corrected_answer, said, mark_of}
-use Rattle.sensor.specs.declared.Mark.{Mark}
-use Rattle.sensor.specs.declared.Verdict.{Verdict}
+use Rattle.sensor.specs.Verdicts.{sole_mark, several_mark, clean_answer, dense_answer, no_fit_answer, corrected_answer}
 use Rattle.verdicts.specs.Columns.{answer_word, mark_word, lacking, outcome_columns, spaced}
 
 -- ---- columns
@@ -119,15 +116,24 @@ corrected_length w b m h k =
       mark_word-length m,
     )
 
--- ---- one case of a match: v is the case x, and t, the text of x, was appended
+-- ---- for the tactics
 
-pub verdict-written : (start q : Place) (v x : Verdict) (t : List ℕ) → v ≡ x → t ≡ spaced (outcome_columns (said x))
-    → q ≡ append start t → length t ≤ 40
-    → (q ≡ append start (spaced (outcome_columns (said v)))) × (length (spaced (outcome_columns (said v))) ≤ 40)
-verdict-written start q v x t e f p h =
-    let text : t ≡ spaced (outcome_columns (said v)) = f ∙ ap (λ (y : Verdict). spaced (outcome_columns (said y))) (sym e) in
-    (p ∙ ap (append start) text, subst (λ (l : List ℕ). length l ≤ 40) text h)
+pub refused-length : (n : ℕ) → length (decimal_text n) ≤ 10 → length (spaced (outcome_columns (refusal n))) ≤ 40
+refused-length n h = omega (arith, ap length (refused_text n), number-length (ascii " refused ") n (omega arith) h)
 
-pub mark-written : (start q : Place) (m x : Mark) (t : List ℕ) → m ≡ x → t ≡ space ∷ mark_word (mark_of x)
-    → q ≡ append start t → q ≡ append start (space ∷ mark_word (mark_of m))
-mark-written start q m x t e f p = p ∙ ap (append start) (f ∙ ap (λ (y : Mark). space ∷ mark_word (mark_of y)) (sym e))
+pub ruleset refused_texts = (refused_text, refused-length)
+
+pub dense-length : (w : ℕ) → length (decimal_text w) ≤ 10 → length (spaced (outcome_columns (dense_answer w))) ≤ 40
+dense-length w h = omega (arith, ap length (dense_text w), number-length (ascii " dense ") w (omega arith) h)
+
+pub corrected-length : (w b m : ℕ) → length (decimal_text w) ≤ 10 → length (decimal_text b) ≤ 10
+    → length (spaced (outcome_columns (corrected_answer w b m))) ≤ 40
+corrected-length w b m h k = omega (arith, ap length (corrected_text w b m), corrected_length w b m h k)
+
+pub clean-length : length (spaced (outcome_columns clean_answer)) ≤ 40
+clean-length = omega (arith, ap length clean_text)
+
+pub nofit-length : length (spaced (outcome_columns no_fit_answer)) ≤ 40
+nofit-length = omega (arith, ap length nofit_text)
+
+pub ruleset verdict_texts = (clean_text, clean-length, nofit_text, nofit-length, dense_text, dense-length, corrected_text, corrected-length)

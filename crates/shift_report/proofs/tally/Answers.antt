@@ -1,17 +1,11 @@
 -- `shift_report::tally` meets its contract.
-use mathlib.Core.List.{List}
-use Prim.Native.Nat.{ℕ, ◌≤◌}
 use native.Mathlib.Omega.{arith}
-use lib.ListN.{length}
-use Rattle.text.proofs.Laws.{at-start, taken-le, taken_size}
+use Rattle.text.proofs.Laws.{from_start}
 use Rattle.shift_report.specs.Tally.{tally_output}
 use Rattle.shift_report.proofs.tally.Goals as goal
 
 pub returns : goal.returns
 returns c =
-    let done = c.write_tally in
-    let input : List ℕ = c.args.input.now in
-    let fits : length (tally_output input) ≤ length c.args.out.now = omega (arith, done.ensures.input_len_bound) in
-    let held = at-start (tally_output input) c.args.out.now done.new.out done.result fits done.ensures.result_after in
-    let within = taken-le (tally_output input) c.args.out.now done.new.out done.result fits done.ensures.result_after in
-    let size = taken_size (tally_output input) c.args.out.now done.new.out done.result fits done.ensures.result_after in record { value = held.0; out_after = held.1; upper_bound = (within, size) }
+    let wrote = c.write_tally.ensures in
+    let all = from_start _ _ c.args.out.now (tally_output c.args.input.now) c.new-output.ensures.none_taken wrote.written (omega (arith, wrote.input_len_bound)) in
+    record { value = all.0; out_after = all.1; upper_bound = (all.2, all.3) }

@@ -1,13 +1,12 @@
--- `reading::bytes::hex_bytes` meets its contract. The loop's invariant: what is left to append are the bytes of `s` from `i` on.
+-- `reading::bytes::hex_bytes`: what is left to append is what the pairs left write.
 use mathlib.Core.Path.{◌≡◌}
-use Prim.Native.Nat.{◌-◌, ◌≤◌}
-use lib.ListN.{length, drop}
-use Rattle.text.specs.Output.{append}
+use Rattle.std.specs.Slice.Iter.{chunks_exact_rest, chunks_exact_size}
+use Rattle.text.specs.Output.{append, place}
 use Rattle.reading.specs.Digits.{hex_bytes}
 use Rattle.reading.proofs.bytes.hex_bytes.Given as goal
 
-abbrev pub invariant-loop-i : goal.invariant-loop-i
-invariant-loop-i l = (l.i ≤ length l.s) × (length l.out ≡ length l.initial.out) × (append (l.out, l.taken) (hex_bytes (drop l.i l.s)) ≡ append (l.initial.out, 0) (hex_bytes l.s))
-
-abbrev pub decreases-loop-i : goal.decreases-loop-i
-decreases-loop-i l = length l.s - l.i
+abbrev pub invariant-loop-pair : goal.invariant-loop-pair
+invariant-loop-pair l =
+    (l.output.buffer.ghost_name ≡ l.initial.output.buffer.ghost_name)
+    × (chunks_exact_size l.pair-iterator ≡ 2)
+    × (append (place l.output) (hex_bytes (chunks_exact_rest l.pair-iterator)) ≡ append (place l.initial.output) (hex_bytes l.s))

@@ -1,21 +1,15 @@
 -- `reading::digits::all_decimal` meets its contract.
-use mathlib.Core.Path.{refl, ◌∙◌}
-use native.Mathlib.Omega.{arith}
+use Rattle.std.proofs.Common.{rules, ◌∙◌}
+use mathlib.Core.Bool.{true, ◌&&◌}
+use Rattle.std.proofs.lemmas.Iterator.{YieldsList-from_slice}
+use Rattle.std.proofs.lemmas.Iterator.Consumers.{fold_from_yields_List}
 use Rattle.reading.specs.Digits.{is_decimal_digit}
-use Rattle.reading.proofs.Values.{one-more-tested, all_tested}
+use Rattle.reading.proofs.Values.{fold-all}
 use Rattle.reading.proofs.digits.all_decimal.Goals as goal
 
-pub loop-i-init : goal.loop-i-init
-loop-i-init c = (omega arith, refl)
-
-pub loop-i-preserved : goal.loop-i-preserved
-loop-i-preserved c =
-    let s = c.args.s.now in
-    let l = c.loop-i in (
-      omega arith,
-      one-more-tested is_decimal_digit s l.i c.loop-i-test.true l.all c.is_decimal_digit-all.result c.is_decimal_digit-all.ensures ∙ l.invariant.1,
-    )
-
 pub returns : goal.returns
+unfolding is_decimal_digit
 returns c =
-    all_tested is_decimal_digit c.args.s.now c.loop-i.i c.loop-i-test.false c.loop-i.all ∙ c.loop-i.invariant.1
+    fold_from_yields_List _ (λ so_far b. so_far && is_decimal_digit b) true c.fold.result c.fold.ensures.ran (YieldsList-from_slice _ c.iter.ensures.rest)
+    (λ a x b q k. search rules)
+    ∙ fold-all is_decimal_digit true c.args.s.now

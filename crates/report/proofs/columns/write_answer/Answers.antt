@@ -1,40 +1,35 @@
 -- `report::columns::write_answer` meets its contract.
-use mathlib.Core.Path.{◌≡◌, sym}
-use mathlib.Core.List.{List}
-use Prim.Native.Nat.{ℕ, ◌+◌}
+use mathlib.Core.Path.{sym, ap, ◌∙◌}
 use native.Mathlib.Omega.{arith}
-use lib.ListN.{drop}
-use lib.Seq.{length-take-le}
-use Rattle.report.specs.Sift.{answer_text}
-use Rattle.report.proofs.Texts.{column-found, column-last, rest_short, too_few_1}
+use lib.ListN.{length}
+use Rattle.text.proofs.Laws.{appends_same}
+use Rattle.report.proofs.Texts.{well_formed_text, ill_formed_text, request_length, malformed_length, too_few_text}
 use Rattle.report.proofs.columns.write_answer.Goals as goal
+use Rattle.report.proofs.columns.write_answer.Goals.{in_default-via-in-Some+else-is_well_formed, in_default-via-in_default}
 
-pub slice_bounds-after_message-end : goal.slice_bounds-after_message-end
-slice_bounds-after_message-end c = sym (length-take-le c.find-end.result c.args.line.now (omega arith))
+pub returns-in-Some-clause-written : goal.returns-in-Some-clause-written
+returns-in-Some-clause-written c =
+    appends_same _ _ _ _
+    (well_formed_text _ _ _ _ _ c.in-Some.ensures (sym c.is_well_formed.ensures ∙ c.if-is_well_formed.true))
+    c.write_request.ensures.written
 
-pub shape_of-out-then-end-line : goal.shape_of-out-then-end-line
-shape_of-out-then-end-line c = c.after_message.auto.out
+pub returns-in-Some-clause-line_len_bound : goal.returns-in-Some-clause-line_len_bound
+returns-in-Some-clause-line_len_bound c =
+    let text = well_formed_text _ _ _ _ _ c.in-Some.ensures (sym c.is_well_formed.ensures ∙ c.if-is_well_formed.true) in
+    request_length _ _ _ _ _ c.in-Some.ensures (omega (arith, ap length text, c.write_request.ensures.request_len_bound))
 
-pub returns-then-end-line : goal.returns-then-end-line
-returns-then-end-line c =
-    let found = c.find-end in
-    let next = c.after_message in
-    let s : List ℕ = c.args.line.now in
-    let rest : List ℕ = c.after.result.now in
-    let e : rest ≡ drop (found.result + 1) s = c.after.ensures in
-    let both = column-found answer_text (c.args.out.now, c.args.taken) (next.new.out, next.result) s found.result found.ensures.value rest
-    c.if-end-line.true e next.ensures.result_after
-    (omega (arith, next.ensures.others_len_bound, rest_short s rest (found.result + 1) e)) in
-    record { result_after = both.0; line_len_bound = both.1 }
+pub returns-in_default-clause-written : goal.returns-in_default-clause-written
+returns-in_default-clause-written c =
+    elim c.in_default.branch [
+      | in_default-via-in-Some+else-is_well_formed w ↦
+          appends_same _ _ _ _ (ill_formed_text _ _ _ _ _ w.in-Some.ensures (sym w.is_well_formed.ensures ∙ w.if-is_well_formed.false)) c.put_bytes.ensures
+      | in_default-via-in_default w ↦ appends_same _ _ _ _ (too_few_text _ w.in_default.ensures) c.put_bytes.ensures
+    ]
 
-pub shape_of-out-else-end-line : goal.shape_of-out-else-end-line
-shape_of-out-else-end-line c = c.write_malformed.auto.out
-
-pub returns-else-end-line : goal.returns-else-end-line
-returns-else-end-line c =
-    let found = c.find-end in
-    let next = c.write_malformed in
-    let s : List ℕ = c.args.line.now in
-    let both = column-last answer_text (c.args.out.now, c.args.taken) (next.new.out, next.result) s found.result found.ensures.value
-    c.if-end-line.false next.ensures (too_few_1 s) in
-    record { result_after = both.0; line_len_bound = both.1 }
+pub returns-in_default-clause-line_len_bound : goal.returns-in_default-clause-line_len_bound
+returns-in_default-clause-line_len_bound c =
+    elim c.in_default.branch [
+      | in_default-via-in-Some+else-is_well_formed w ↦
+          malformed_length _ (ill_formed_text _ _ _ _ _ w.in-Some.ensures (sym w.is_well_formed.ensures ∙ w.if-is_well_formed.false))
+      | in_default-via-in_default w ↦ malformed_length _ (too_few_text _ w.in_default.ensures)
+    ]

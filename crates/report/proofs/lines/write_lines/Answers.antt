@@ -1,78 +1,61 @@
--- `report::lines::write_lines` meets its contract. The loop's invariant: what is left to append are the output lines for the
--- input from `at` on, numbered on from `number`, and the text appended so far has at most 24 bytes for each byte read.
-use mathlib.Core.Path.{◌≡◌, refl, sym, ap, ◌∙◌}
-use mathlib.Core.List.{List, [], ◌++◌}
-use Prim.Native.Nat.{ℕ, ◌+◌, ◌-◌, ◌*◌, ◌≤◌, ◌<◌}
+-- `report::lines::write_lines` meets its contract.
+use mathlib.Core.Path.{◌≡◌, refl, ap, ◌∙◌}
+use mathlib.Core.List.{List, [], ◌∷◌}
+use Prim.Native.Nat.{ℕ, ◌+◌, ◌*◌, ◌^◌, ◌<◌, ◌≤◌}
 use native.Mathlib.Omega.{arith}
-use borrow.Author.Tests.{ltb-true, ltb-false}
-use lib.ListN.{length, take, drop, length-append}
+use lib.ListN.{length}
+use Rattle.std.proofs.Common.{inl}
+use Rattle.std.specs.Iterator.Adapters.{enumerate_source, enumerate_count}
 use Rattle.reading.specs.Lines.{lines}
-use Rattle.text.specs.Output.{append}
-use Rattle.text.proofs.Laws.{part_done, all_done}
-use Rattle.report.specs.Sift.{output_line, output_lines}
-use Rattle.reading.proofs.Laws.{line-within, line_taken}
-use Rattle.report.proofs.Texts.{next_output, no_line}
-use mathlib.Core.Bool.{Bool, true}
-use lib.Dec.{ltb}
+use Rattle.reading.proofs.Laws.{lines_size, lines_size-le, length-le-lines_size}
+use Rattle.text.specs.Output.{place}
+use Rattle.text.proofs.Laws.{all_done}
+use Rattle.report.specs.Sift.{output_lines}
+use Rattle.report.proofs.Texts.{line_put, bound_kept, no_line, bound_reached}
 use Rattle.report.proofs.lines.write_lines.Goals as goal
 
--- a line starts at `at`
-more : (at n : ℕ) (t : Bool) → t ≡ ltb at n → t ≡ true → at < n
-more at n t e h = ltb-true at n (sym e ∙ h)
+pub loop-index-init : goal.loop-index-init
+loop-index-init c =
+    let it = c.into_iter-index-iterator.result in
+    let input = c.args.input.now in
+    let from = c.into_iter-index-iterator.ensures.into_iter_gives in
+    let count : enumerate_count it ≡ 0 = ap enumerate_count from ∙ c.enumerate-index-items.ensures.count in
+    let source : enumerate_source it ≡ c.new.result = ap enumerate_source from ∙ c.enumerate-index-items.ensures.source in
+    let few : length (lines input) ≤ 65537 = omega (arith, length-le-lines_size (lines input), lines_size-le input) in
+    rw (count, source, c.new.ensures) ((tt, tt, inl (omega arith)), tt, refl, omega arith, refl, omega arith)
 
-pub loop-rest-init : goal.loop-rest-init
-loop-rest-init c = (omega arith, omega arith, refl, refl, omega arith)
-
-pub slice_bounds-rest-count : goal.slice_bounds-rest-count
-slice_bounds-rest-count c = omega (arith, more c.loop-rest.at (length c.args.input.now) _ c.has_line.ensures c.loop-rest-test.true)
-
-pub slice_bounds-write_line-end : goal.slice_bounds-write_line-end
-slice_bounds-write_line-end c = line_taken c.args.input.now c.loop-rest.at c.line_size-size.result c.line_size-size.ensures
-
-pub write_line-next-requires : goal.write_line-next-requires
-write_line-next-requires c = omega (arith, more c.loop-rest.at (length c.args.input.now) _ c.has_line.ensures c.loop-rest-test.true)
-
-pub overflow_add-at : goal.overflow_add-at
-overflow_add-at c = omega (arith, line-within c.args.input.now c.loop-rest.at c.line_size-size.result c.line_size-size.ensures (more c.loop-rest.at (length c.args.input.now) _ c.has_line.ensures c.loop-rest-test.true))
-
-pub overflow_add-at-in-loop-rest : goal.overflow_add-at-in-loop-rest
-overflow_add-at-in-loop-rest c = omega (arith, line-within c.args.input.now c.loop-rest.at c.line_size-size.result c.line_size-size.ensures (more c.loop-rest.at (length c.args.input.now) _ c.has_line.ensures c.loop-rest-test.true))
-
-pub overflow_add-number : goal.overflow_add-number
-overflow_add-number c = omega (arith, more c.loop-rest.at (length c.args.input.now) _ c.has_line.ensures c.loop-rest-test.true)
-
-pub loop-rest-smaller : goal.loop-rest-smaller
-loop-rest-smaller c = omega (arith, more c.loop-rest.at (length c.args.input.now) _ c.has_line.ensures c.loop-rest-test.true, line-within c.args.input.now c.loop-rest.at c.line_size-size.result c.line_size-size.ensures (more c.loop-rest.at (length c.args.input.now) _ c.has_line.ensures c.loop-rest-test.true))
-
-pub loop-rest-preserved : goal.loop-rest-preserved
-loop-rest-preserved c =
-    let l = c.loop-rest in
-    let put = c.write_line-next in
-    let input : List ℕ = c.args.input.now in
-    let k : ℕ = c.line_size-size.result in
-    let rest : List ℕ = take (length input - l.at) (drop l.at input) in
-    let text : List ℕ = output_line l.number (take k rest) in
-    let others : List ℕ = output_lines (l.number + 1) (lines (drop (l.at + k + 1) input)) in
-    let kept : length put.new.out ≡ length l.out = put.auto.out in
-    let e : (put.new.out, put.result) ≡ append (l.out, l.next) text = put.ensures.result_after in
-    let split : output_lines l.number (lines (drop l.at input)) ≡ text ++ others =
-    next_output input l.at k l.number (more c.loop-rest.at (length c.args.input.now) _ c.has_line.ensures c.loop-rest-test.true) c.line_size-size.ensures in
-    let size : k ≡ length (take k rest) = line_taken input l.at k c.line_size-size.ensures in
-    let short : length text ≤ 24 * (length (take k rest) + 1) = put.ensures.line_len_bound in
-    let inside : l.at + k ≤ length input = line-within c.args.input.now c.loop-rest.at c.line_size-size.result c.line_size-size.ensures (more c.loop-rest.at (length c.args.input.now) _ c.has_line.ensures c.loop-rest-test.true) in (
-      omega arith,
-      omega arith,
-      kept ∙ l.invariant.2,
-      part_done (l.out, l.next) (put.new.out, put.result) text others (output_lines l.number (lines (drop l.at input))) e split ∙ l.invariant.3,
-      omega (arith, l.invariant.4, ap length split, length-append text others),
+pub loop-index-preserved : goal.loop-index-preserved
+loop-index-preserved c =
+    let it = c.loop-index.index-iterator in
+    let next = c.next.new.self in
+    let line : List ℕ = c.in-Some.line.now in
+    let ls = lines (enumerate_source it).rest.now in
+    let ms = lines (enumerate_source next).rest.now in
+    let got : (ls ≡ line ∷ ms) × (c.in-Some.index ≡ enumerate_count it) × (enumerate_count next ≡ enumerate_count it + 1) × (c.in-Some.index + 1 < 2 ^ 64) = c.in-Some.ensures.steps in
+    let kept = c.loop-index.invariant in
+    let put = c.write_line.ensures in
+    let number : c.in-Some.index + 1 ≡ enumerate_count it + 1 = omega (arith, got.1) in
+    let others : enumerate_count next + 1 ≡ (enumerate_count it + 1) + 1 = omega (arith, got.2) in
+    let fewer : length ls ≡ length ms + 1 = omega (arith, ap length got.0) in (
+      (tt, tt, inl (omega (arith, kept.3, got.2))),
+      tt,
+      put.written.same_buffer ∙ kept.2,
+      omega (arith, kept.3, got.2),
+      line_put _ _ _ line ls ms got.0 number others (place c.loop-index.output) (place c.write_line.new.output) put.written.appended ∙ kept.4,
+      bound_kept _ _ _ line ls ms got.0 number others _ _ kept.5 put.line_len_bound,
     )
-
-pub shape_of-out : goal.shape_of-out
-shape_of-out c = c.loop-rest.invariant.2
 
 pub returns : goal.returns
 returns c =
-    let l = c.loop-rest in
-    let input : List ℕ = c.args.input.now in
-    let over : length input ≤ l.at = ltb-false l.at (length input) (sym c.has_line.ensures ∙ c.loop-rest-test.false) in
-    let none : output_lines l.number (lines (drop l.at input)) ≡ [] = no_line input l.at l.number over in record { result_after = all_done (l.out, l.next) (c.args.out.now, c.args.taken) (output_lines l.number (lines (drop l.at input))) (output_lines 1 (lines input)) none l.invariant.3; input_len_bound = omega (arith, l.invariant.4, ap length none) }
+    let it = c.loop-index.index-iterator in
+    let ls = lines (enumerate_source it).rest.now in
+    let none : ls ≡ [] = c.in-None.ensures.steps.0.0 in
+    let kept = c.loop-index.invariant in
+    let bound : length (output_lines 1 (lines c.args.input.now)) ≤ 24 * lines_size (lines c.args.input.now) = bound_reached (enumerate_count it + 1) ls none _ _ kept.5 in
+    record {
+      written = record {
+        same_buffer = kept.2;
+        appended = all_done (place c.loop-index.output) (place c.args.output.now) (output_lines (enumerate_count it + 1) ls) (output_lines 1 (lines c.args.input.now)) (no_line (enumerate_count it + 1) ls none) kept.4;
+      };
+      input_len_bound = omega (arith, bound, lines_size-le c.args.input.now);
+    }

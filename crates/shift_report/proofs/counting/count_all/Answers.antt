@@ -1,32 +1,24 @@
--- `shift_report::counting::count_all` meets its contract. The loop's invariant: the lines counted and those left from `at` on
--- are all.
+-- `shift_report::counting::count_all` meets its contract.
+use mathlib.Core.Path.{ap, ◌∙◌}
+use mathlib.Core.List.{List}
+use Prim.Native.Nat.{ℕ, ◌^◌, ◌<◌}
 use native.Mathlib.Omega.{arith}
-use Rattle.reading.proofs.Laws.{line-within}
-use Rattle.shift_report.proofs.Counts.{one-row, no-row-left}
+use lib.ListN.{length}
+use Rattle.std.proofs.Common.{Bor, inl}
+use Rattle.std.proofs.lemmas.Iterator.Consumers.{YieldsList-from_first, count_from_yields_List}
+use Rattle.reading.specs.Lines.{lines}
+use Rattle.reading.specs.declared.lines.Lines.{Lines}
+use Rattle.shift_report.proofs.Counts.{length-rows_in, lines-length-le}
 use Rattle.shift_report.proofs.counting.count_all.Goals as goal
 
-pub loop-at-init : goal.loop-at-init
-loop-at-init c = (omega arith, omega arith, omega arith)
-
-pub overflow_add-n : goal.overflow_add-n
-overflow_add-n c = omega (arith, line-within c.args.text.now c.loop-at.at c.find-size.result c.find-size.ensures.value c.loop-at-test.true)
-
-pub overflow_add-at : goal.overflow_add-at
-overflow_add-at c = omega (arith, line-within c.args.text.now c.loop-at.at c.find-size.result c.find-size.ensures.value c.loop-at-test.true)
-
-pub overflow_add-at-in-loop-at : goal.overflow_add-at-in-loop-at
-overflow_add-at-in-loop-at c = omega (arith, line-within c.args.text.now c.loop-at.at c.find-size.result c.find-size.ensures.value c.loop-at-test.true)
-
-pub loop-at-smaller : goal.loop-at-smaller
-loop-at-smaller c = omega (arith, line-within c.args.text.now c.loop-at.at c.find-size.result c.find-size.ensures.value c.loop-at-test.true)
-
-pub loop-at-preserved : goal.loop-at-preserved
-loop-at-preserved c =
-    let l = c.loop-at in
-    let row = one-row c.args.text.now l.at c.find-size.result c.loop-at-test.true c.find-size.ensures.value in
-    (omega (arith, line-within c.args.text.now c.loop-at.at c.find-size.result c.find-size.ensures.value c.loop-at-test.true), omega arith, omega (arith, row, l.invariant.2))
+pub count-requires-clause-fits : goal.count-requires-clause-fits
+count-requires-clause-fits c =
+    let fits : length (lines c.new.result.rest.now) < 2 ^ 64 =
+    omega (arith, ap (λ (t : List ℕ). length (lines t)) c.new.ensures, lines-length-le c.args.text.now) in
+    inl (omega arith)
 
 pub returns : goal.returns
 returns c =
-    let l = c.loop-at in
-    omega (arith, l.invariant.2, no-row-left c.args.text.now l.at c.loop-at-test.false)
+    count_from_yields_List _ c.count.result c.count.ensures.ran
+    (YieldsList-from_first (λ (line : Bor (List ℕ)). line.now) (λ (s : Lines). lines s.rest.now) (lines c.args.text.now) (ap lines c.new.ensures))
+    ∙ length-rows_in c.args.text.now

@@ -1,46 +1,34 @@
--- `shift_report::counting::count_named` meets its contract. The loop's invariant: those counted and those left from `at` on
--- are all that count for the name.
-use mathlib.Core.Path.{◌≡◌}
+-- `shift_report::counting::count_named` meets its contract.
+use mathlib.Core.Path.{ap, ◌∙◌}
 use mathlib.Core.List.{List}
-use Prim.Native.Nat.{ℕ, ◌-◌, ◌≤◌}
+use Prim.Native.Nat.{ℕ, ◌^◌, ◌<◌}
 use native.Mathlib.Omega.{arith}
-use lib.ListN.{length, take, drop}
-use Rattle.reading.proofs.Laws.{line-within, line_taken}
-use Rattle.shift_report.specs.Tally.{Row, same_text, label, one as one_of}
+use lib.ListN.{length}
+use Rattle.std.proofs.Common.{Bor, inl, rules}
+use Rattle.std.proofs.lemmas.Iterator.Consumers.{YieldsList-from_first, count_from_yields_List, YieldsList-from_filter}
+use Rattle.reading.specs.Lines.{lines}
+use Rattle.reading.specs.declared.lines.Lines.{Lines}
+use Rattle.shift_report.specs.Tally.{same_text, label}
 use Rattle.shift_report.specs.Printed.{row_of}
-use Rattle.shift_report.proofs.Counts.{one-le, one-counted, none-counted}
+use Rattle.shift_report.proofs.Counts.{length-filter_lines, lines-length-le}
 use Rattle.shift_report.proofs.counting.count_named.Goals as goal
 
--- a line counts once at most
-once : (n : ℕ) (row : Row) (name : List ℕ) → n ≡ one_of (same_text (label row) name) → n ≤ 1
-once n row name e = omega (arith, e, one-le (same_text (label row) name))
-
-pub loop-at-init : goal.loop-at-init
-loop-at-init c = (omega arith, omega arith, omega arith)
-
-pub slice_bounds-counted-end : goal.slice_bounds-counted-end
-slice_bounds-counted-end c = line_taken c.args.text.now c.loop-at.at c.find-size.result c.find-size.ensures.value
-
-pub overflow_add-n : goal.overflow_add-n
-overflow_add-n c = omega (arith, once c.counted-n.result (row_of (take c.find-size.result (take (length c.args.text.now - c.loop-at.at) (drop c.loop-at.at c.args.text.now)))) c.args.name.now c.counted-n.ensures, line-within c.args.text.now c.loop-at.at c.find-size.result c.find-size.ensures.value c.loop-at-test.true)
-
-pub overflow_add-at : goal.overflow_add-at
-overflow_add-at c = omega (arith, line-within c.args.text.now c.loop-at.at c.find-size.result c.find-size.ensures.value c.loop-at-test.true)
-
-pub overflow_add-at-in-loop-at : goal.overflow_add-at-in-loop-at
-overflow_add-at-in-loop-at c = omega (arith, line-within c.args.text.now c.loop-at.at c.find-size.result c.find-size.ensures.value c.loop-at-test.true)
-
-pub loop-at-smaller : goal.loop-at-smaller
-loop-at-smaller c = omega (arith, line-within c.args.text.now c.loop-at.at c.find-size.result c.find-size.ensures.value c.loop-at-test.true)
-
-pub loop-at-preserved : goal.loop-at-preserved
-loop-at-preserved c =
-    let l = c.loop-at in
-    let found = c.find-size in
-    let row = one-counted c.args.text.now l.at found.result c.loop-at-test.true found.ensures.value c.args.name.now in
-    (omega (arith, line-within c.args.text.now c.loop-at.at c.find-size.result c.find-size.ensures.value c.loop-at-test.true), omega (arith, once c.counted-n.result (row_of (take c.find-size.result (take (length c.args.text.now - c.loop-at.at) (drop c.loop-at.at c.args.text.now)))) c.args.name.now c.counted-n.ensures), omega (arith, row, c.counted-n.ensures, l.invariant.2))
+pub count-requires-clause-fits : goal.count-requires-clause-fits
+count-requires-clause-fits c =
+    let fits : length (lines c.filter.result.iter.rest.now) < 2 ^ 64 =
+    omega (
+      arith,
+      ap (λ (s : Lines). length (lines s.rest.now)) c.filter.ensures.source,
+      ap (λ (t : List ℕ). length (lines t)) c.new.ensures,
+      lines-length-le c.args.text.now,
+    ) in
+    inl (omega arith)
 
 pub returns : goal.returns
 returns c =
-    let l = c.loop-at in
-    omega (arith, l.invariant.2, none-counted c.args.text.now l.at c.loop-at-test.false c.args.name.now)
+    count_from_yields_List _ c.count.result c.count.ensures.ran
+    (YieldsList-from_filter _ (λ (l : List ℕ). same_text (label (row_of l)) c.args.name.now)
+    (YieldsList-from_first (λ (line : Bor (List ℕ)). line.now) (λ (s : Lines). lines s.rest.now) (lines c.args.text.now)
+    (ap (λ (s : Lines). lines s.rest.now) c.filter.ensures.source ∙ ap lines c.new.ensures))
+    c.filter.ensures.closure (λ x b q k. search rules))
+    ∙ length-filter_lines c.args.name.now c.args.text.now

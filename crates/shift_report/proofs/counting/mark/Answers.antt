@@ -5,8 +5,5 @@ use Rattle.shift_report.proofs.counting.mark.Goals as goal
 
 pub returns : goal.returns
 returns c =
-    let one = c.behind-window in
-    let two = c.behind-bits in
-    let three = c.behind in
     c.first.ensures
-    ∙ column_fourth c.args.row.now one.result.now two.result.now three.result.now one.ensures two.ensures three.ensures
+    ∙ column_fourth c.args.row.now c.behind-window.result.now c.behind-bits.result.now c.behind.result.now c.behind-window.ensures c.behind-bits.ensures c.behind.ensures

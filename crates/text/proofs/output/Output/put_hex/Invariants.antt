@@ -1,0 +1,8 @@
+-- `text::output::Output::put_hex`: the digits of the bytes so far have been appended.
+use lib.ListN.{take}
+use Rattle.text.specs.Digits.{hex_text}
+use Rattle.text.specs.Output.{Appends}
+use Rattle.text.proofs.output.Output.put_hex.Given as goal
+
+abbrev pub invariant-loop-b : goal.invariant-loop-b
+invariant-loop-b l = Appends l.initial.self l.self (hex_text (take l.b-index l.s))
