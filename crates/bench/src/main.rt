@@ -22,12 +22,10 @@
 //                 counts as meeting row 5.
 #![tactic(auto)]
 
-ghost use Rattle.std.specs.Prelude.{◌+◌, ◌≤◌, length, IfOk};
-
 mod calls;
 mod print;
 
-use reading::{after, find};
+use reading::{Lines, cut};
 use std::io;
 use std::io::{Read, Write};
 
@@ -38,30 +36,17 @@ fn main(rt: HostRuntime) -> io::Result<()> {
 fn run<R: Read, W: Write>(input: &mut R, to: &mut W) -> io::Result<()> {
     let mut vectors = [0u8; 65536];
     let read = intake::read_full(input, &mut vectors);
-    show_all(to, &vectors[..read.size])
-}
-
-fn show_all<W: Write>(to: &mut W, vectors: &[u8]) -> io::Result<()> {
-    let mut at: usize = 0;
-    while at < vectors.len() {
-        at += show_first(to, &vectors[at..])?;
+    for vector in Lines::new(&vectors[..read.size]) {
+        show(to, vector)?;
     }
     Ok(())
 }
 
-// Shows the first line; the number of its bytes, with the line feed.
-fn show_first<W: Write>(to: &mut W, vectors: &[u8]) -> io::Result<usize>
-    ensures { IfOk result (λ r. (1 ≤ r) × (r ≤ length vectors.now + 1)) }
-{
-    let end = find(vectors, b'\n');
-    show(to, &vectors[0..end])?;
-    Ok(end + 1)
-}
-
 fn show<W: Write>(to: &mut W, vector: &[u8]) -> io::Result<()> {
     to.write_all(vector)?;
-    let call = after(vector, find(vector, b' '));
-    let end = find(call, b' ');
-    calls::answer(to, &call[0..end], after(call, end))?;
+    let (_, call) = cut(vector, b' ');
+    let (name, arguments) = cut(call, b' ');
+    let (first, second) = cut(arguments, b' ');
+    calls::answer(to, name, first, second)?;
     to.write_all(b"\n")
 }

@@ -1,86 +1,83 @@
 // Columns of output, each with a space in front of it.
-use altitude::Altitude;
-use division::Word;
-use encoder::Seal;
+use altitude_code::Decoded;
+use outcome::Refusal;
 use std::io;
 use std::io::Write;
+use text::Output;
 use transponder::Reception;
 
-pub(crate) fn column<W: Write>(to: &mut W, s: &[u8]) -> io::Result<()> {
+// What a call answers where it is not refused.
+pub(crate) trait Columns {
+    fn put<W: Write>(self, to: &mut W) -> io::Result<()>;
+}
+
+pub(crate) fn answer<T: Columns, W: Write>(
+    to: &mut W,
+    answer: Result<T, Refusal>,
+) -> io::Result<()> {
+    match answer {
+        Ok(columns) => columns.put(to),
+        Err(refusal) => write!(to, " refused-{}", u32::from(refusal)),
+    }
+}
+
+// A message in hexadecimal digits.
+pub(crate) fn bytes<W: Write>(to: &mut W, m: &[u8]) -> io::Result<()> {
+    let mut digits = [0u8; 64];
+    let mut output = Output::new(&mut digits);
+    output.put_hex(m);
+    let taken = output.taken;
+    match digits.get(..taken) {
+        Some([]) => write!(to, " -"),
+        Some(text) => column(to, text),
+        None => Ok(()),
+    }
+}
+
+fn column<W: Write>(to: &mut W, s: &[u8]) -> io::Result<()> {
     to.write_all(b" ")?;
     to.write_all(s)
 }
 
-pub(crate) fn bytes<W: Write>(to: &mut W, m: &[u8]) -> io::Result<()> {
-    let mut digits = [0u8; 64];
-    let n = text::put_hex(&mut digits, 0, m);
-    if n == 0 {
-        column(to, b"-")?;
-    } else {
-        if n <= 64 {
-            column(to, &digits[0..n])?;
+// A word.
+impl Columns for u32 {
+    fn put<W: Write>(self, to: &mut W) -> io::Result<()> {
+        let mut digits = [0u8; 6];
+        Output::new(&mut digits).put_word(self);
+        column(to, &digits)
+    }
+}
+
+// A seal.
+impl Columns for () {
+    fn put<W: Write>(self, to: &mut W) -> io::Result<()> {
+        write!(to, " sealed")
+    }
+}
+
+impl Columns for Reception {
+    fn put<W: Write>(self, to: &mut W) -> io::Result<()> {
+        match self {
+            Reception::Own => write!(to, " own"),
+            Reception::AllCall => write!(to, " allcall"),
+            Reception::Broadcast => write!(to, " broadcast"),
+            Reception::NotOurs(address) => {
+                write!(to, " notours")?;
+                address.put(to)
+            }
         }
     }
-    Ok(())
 }
 
-pub(crate) fn answer<W: Write>(to: &mut W, a: Word) -> io::Result<()> {
-    match a {
-        Word::Value(w) => word(to, w),
-        Word::Refused(n) => refusal(to, n),
+// The altitude of a reply, if its format has one.
+impl Columns for Option<Decoded> {
+    fn put<W: Write>(self, to: &mut W) -> io::Result<()> {
+        match self {
+            Some(Decoded::Feet(feet)) => write!(to, " feet {feet}"),
+            Some(Decoded::NoAltitude) => write!(to, " none"),
+            Some(Decoded::Metric) => write!(to, " metric"),
+            Some(Decoded::Illegal) => write!(to, " illegal"),
+            None => write!(to, " nofield"),
+        }
     }
-}
-
-pub(crate) fn seal<W: Write>(to: &mut W, a: Seal) -> io::Result<()> {
-    match a {
-        Seal::Sealed => column(to, b"sealed"),
-        Seal::Refused(n) => refusal(to, n),
-    }
-}
-
-pub(crate) fn reception<W: Write>(to: &mut W, a: Reception) -> io::Result<()> {
-    match a {
-        Reception::Own => column(to, b"own"),
-        Reception::AllCall => column(to, b"allcall"),
-        Reception::Broadcast => column(to, b"broadcast"),
-        Reception::NotOurs(address) => not_ours(to, address),
-        Reception::Refused(n) => refusal(to, n),
-    }
-}
-
-pub(crate) fn altitude<W: Write>(to: &mut W, a: Altitude) -> io::Result<()> {
-    match a {
-        Altitude::Feet(n) => feet(to, n),
-        Altitude::NoAltitude => column(to, b"none"),
-        Altitude::Metric => column(to, b"metric"),
-        Altitude::Illegal => column(to, b"illegal"),
-        Altitude::NoSuchField => column(to, b"nofield"),
-        Altitude::Refused(n) => refusal(to, n),
-    }
-}
-
-fn feet<W: Write>(to: &mut W, n: i32) -> io::Result<()> {
-    let mut digits = [0u8; 11];
-    let end = text::put_signed(&mut digits, 0, n);
-    column(to, b"feet")?;
-    if end <= 11 {
-        column(to, &digits[0..end])?;
-    }
-    Ok(())
-}
-
-fn not_ours<W: Write>(to: &mut W, address: u32) -> io::Result<()> {
-    column(to, b"notours")?;
-    word(to, address)
-}
-
-fn word<W: Write>(to: &mut W, w: u32) -> io::Result<()> {
-    let mut digits = [0u8; 6];
-    text::put_word(&mut digits, 0, w);
-    column(to, &digits)
-}
-
-fn refusal<W: Write>(to: &mut W, n: u32) -> io::Result<()> {
-    column(to, b"refused-")?;
-    write!(to, "{n}")
 }

@@ -1,145 +1,115 @@
-// The calls by their names. A call is made on whatever the arguments hold, and answered only where they have the right
-// form.
-use crate::altitudes;
-use crate::answers::{Answer, put};
-use crate::arguments::{is_bit, is_bytes, is_word_text};
-use crate::receiving::receive;
-use crate::sensing::sense;
-use division::Word;
-use reading::{after, find};
+// The calls by their names. A line without the form of a call is malformed.
+use crate::answers::put;
+use console::{bytes, number, word};
+use text::Output;
 
-// Makes the call of a line and appends the columns of its answer to what is taken of the output buffer.
-pub(crate) fn answer(line: &[u8], out: &mut [u8], taken: usize) -> usize {
-    let end = find(line, b' ');
-    if check::same(&line[0..end], b"antennas") {
-        receive(after(line, end), out, taken)
-    } else {
-        answer_one(&line[0..end], after(line, end), out, taken)
+// Makes the call of a line and appends the columns of its answer.
+pub(crate) fn answer(columns: &[&[u8]], out: &mut Output<'_>) {
+    if call(columns, out).is_none() {
+        out.put_bytes(b" malformed - -");
     }
 }
 
-// The call of at most one message, which is what the first argument writes in hexadecimal digits, at most 32 bytes.
-fn answer_one(name: &[u8], arguments: &[u8], out: &mut [u8], taken: usize) -> usize {
-    let mut message = [0u8; 32];
-    let n = reading::hex_bytes(first_of(arguments), &mut message);
-    if n <= 32 {
-        answer_with(name, arguments, &mut message[0..n], out, taken)
-    } else {
-        taken
-    }
-}
-
-fn first_of(arguments: &[u8]) -> &[u8] {
-    let end = find(arguments, b' ');
-    &arguments[0..end]
-}
-
-fn answer_with(name: &[u8], arguments: &[u8], m: &mut [u8], out: &mut [u8], taken: usize) -> usize {
-    let made = make(name, arguments, m);
-    put(made, m, out, taken)
-}
-
-// A call has one argument, two, three for the writing of an altitude, or the sensor's four: no argument has a space, so a
-// line with one space more is malformed.
-fn make(name: &[u8], arguments: &[u8], m: &mut [u8]) -> Answer {
-    let middle = find(arguments, b' ');
-    if middle < arguments.len() {
-        make_of_several(name, &arguments[0..middle], after(arguments, middle), m)
-    } else {
-        make_of_one(name, arguments, m)
-    }
-}
-
-fn make_of_several(name: &[u8], first: &[u8], others: &[u8], m: &mut [u8]) -> Answer {
-    if check::same(name, b"sensor") {
-        return sense(first, others, m);
-    }
-    if check::same(name, b"write") {
-        return altitudes::write(first, others, m);
-    }
-    make_of_two(name, first, others, m)
-}
-
-fn make_of_one(name: &[u8], argument: &[u8], m: &[u8]) -> Answer {
-    if is_bytes(argument) {
-        if check::same(name, b"bits") {
-            return Answer::Divided(division::parity_by_register(m));
+// Nothing is appended where the line is malformed.
+fn call(columns: &[&[u8]], out: &mut Output<'_>) -> Option<()> {
+    match columns {
+        [b"register", register, bit] => {
+            put(
+                division::register_step(word(register)?, is_one(bit)?),
+                b"",
+                out,
+            );
         }
-        if check::same(name, b"bytes") {
-            return Answer::Divided(division::parity_by_bytes(m));
+        [b"backward", register] => put(division::register_back(word(register)?), b"", out),
+        [b"overlay", argument] => put(division::uplink_overlay(word(argument)?), b"", out),
+        [b"antennas", own, upper, p, lower, q] => receive(word(own)?, (upper, p), (lower, q), out)?,
+        [name, message, arguments @ ..] => {
+            let mut buffer = [0u8; 32];
+            let n = bytes(message, &mut buffer)?;
+            call_on(name, &mut buffer[..n], arguments, out)?;
         }
-        if check::same(name, b"rows") {
-            return Answer::Divided(division::parity_by_rows(m));
+        _ => return None,
+    }
+    Some(())
+}
+
+// The calls on a field or a message, at most 32 bytes.
+fn call_on(name: &[u8], m: &mut [u8], arguments: &[&[u8]], out: &mut Output<'_>) -> Option<()> {
+    match (name, arguments) {
+        (b"bits", []) => put(division::parity_by_register(m), b"", out),
+        (b"bytes", []) => put(division::parity_by_bytes(m), b"", out),
+        (b"rows", []) => put(division::parity_by_rows(m), b"", out),
+        (b"remainder", []) => put(division::message_remainder(m), b"", out),
+        (b"address", []) => put(division::address_read(m), b"", out),
+        (b"altitude", []) => put(altitude::read_altitude(m), b"", out),
+        (b"transponder", [own]) => put(transponder::receive(word(own)?, m), b"", out),
+        (b"reply", [argument]) => put(encoder::seal_reply(m, word(argument)?), m, out),
+        (b"interrogation", [argument]) => {
+            put(encoder::seal_interrogation(m, word(argument)?), m, out);
         }
-    }
-    make_of_message_or_word(name, argument, m)
-}
-
-fn make_of_message_or_word(name: &[u8], argument: &[u8], m: &[u8]) -> Answer {
-    if check::same(name, b"altitude") {
-        return altitudes::read(argument, m);
-    }
-    if check::same(name, b"remainder") {
-        return if_bytes(argument, division::message_remainder(m));
-    }
-    if check::same(name, b"address") {
-        return if_bytes(argument, division::address_read(m));
-    }
-    if is_word_text(argument) {
-        return make_of_word(name, reading::hex_number(argument));
-    }
-    Answer::Malformed
-}
-
-fn if_bytes(argument: &[u8], answer: Word) -> Answer {
-    if is_bytes(argument) {
-        Answer::Divided(answer)
-    } else {
-        Answer::Malformed
-    }
-}
-
-fn make_of_word(name: &[u8], word: u32) -> Answer {
-    if check::same(name, b"overlay") {
-        return Answer::Divided(division::uplink_overlay(word));
-    }
-    if check::same(name, b"backward") {
-        return Answer::Divided(division::register_back(word));
-    }
-    Answer::Malformed
-}
-
-fn make_of_two(name: &[u8], first: &[u8], second: &[u8], m: &mut [u8]) -> Answer {
-    if check::same(name, b"register") {
-        return step(first, second);
-    }
-    if is_bytes(first) {
-        if is_word_text(second) {
-            return make_of_message(name, m, reading::hex_number(second));
+        (b"write", [feet, step]) => {
+            put(
+                altitude::write_altitude(m, feet_of(feet)?, number(step, 7)?),
+                m,
+                out,
+            );
         }
-    }
-    Answer::Malformed
-}
-
-fn step(register: &[u8], bit: &[u8]) -> Answer {
-    if is_word_text(register) {
-        if is_bit(bit) {
-            let one = check::same(bit, b"1");
-            return Answer::Divided(division::register_step(reading::hex_number(register), one));
+        (b"sensor", [confidence, argument, limit]) => {
+            let mut buffer = [0u8; 32];
+            let n = bytes(confidence, &mut buffer)?;
+            put(
+                sensor::correct(m, &buffer[..n], word(argument)?, number(limit, 9)?),
+                m,
+                out,
+            );
         }
+        _ => return None,
     }
-    Answer::Malformed
+    Some(())
 }
 
-fn make_of_message(name: &[u8], m: &mut [u8], word: u32) -> Answer {
-    if check::same(name, b"reply") {
-        return Answer::Encoded(encoder::seal_reply(m, word));
+// A bit is 0 or 1.
+fn is_one(s: &[u8]) -> Option<bool> {
+    match s {
+        b"0" => Some(false),
+        b"1" => Some(true),
+        _ => None,
     }
-    if check::same(name, b"interrogation") {
-        return Answer::Encoded(encoder::seal_interrogation(m, word));
+}
+
+// An optional `-` and 1 to 7 decimal digits.
+fn feet_of(s: &[u8]) -> Option<i32> {
+    match s {
+        [b'-', digits @ ..] => feet_of_digits(digits)?.checked_neg(),
+        _ => feet_of_digits(s),
     }
-    if check::same(name, b"transponder") {
-        return Answer::Received(transponder::receive(word, m));
-    }
-    Answer::Malformed
+}
+
+fn feet_of_digits(s: &[u8]) -> Option<i32> {
+    i32::try_from(number(s, 7)?).ok()
+}
+
+// The two-antenna transponder, with what both received: a message of at most 32 bytes, and its level. The part that is
+// returned is a part of one of them.
+fn receive(
+    own: u32,
+    upper: (&[u8], &[u8]),
+    lower: (&[u8], &[u8]),
+    out: &mut Output<'_>,
+) -> Option<()> {
+    let mut upper_buffer = [0u8; 32];
+    let n = bytes(upper.0, &mut upper_buffer)?;
+    let mut lower_buffer = [0u8; 32];
+    let k = bytes(lower.0, &mut lower_buffer)?;
+    let (upper_level, lower_level) = (level(upper.1)?, level(lower.1)?);
+    let (upper, lower) = (&upper_buffer[..n], &lower_buffer[..k]);
+    let antenna = antennas::taken_antenna(own, upper, upper_level, lower, lower_level);
+    let part = antennas::taken_field(own, upper, upper_level, lower, lower_level);
+    put(antenna, part, out);
+    Some(())
+}
+
+// 1 to 3 decimal digits, a number of at most 255.
+fn level(s: &[u8]) -> Option<u8> {
+    u8::try_from(number(s, 3)?).ok()
 }

@@ -1,73 +1,71 @@
 // The columns of an answer, each with a space in front of it.
-use uplink_elm::{Answer, Progress};
+use outcome::Refusal;
+use text::Output;
+use transponder::Reception;
+use uplink_elm::Answer;
 
 // The answer, its value, the acknowledgement, and whether the message is whole.
-pub(crate) fn put_answer(answer: Answer, out: &mut [u8], taken: usize) -> usize {
+pub(crate) fn put_answer(answer: Result<Answer, Refusal>, out: &mut Output<'_>) {
     match answer {
-        Answer::Own(p) => put_progress(b" own -", p, out, taken),
-        Answer::AllCall(p) => put_progress(b" allcall -", p, out, taken),
-        Answer::Broadcast(p) => put_progress(b" broadcast -", p, out, taken),
-        Answer::NotOurs(address, p) => put_not_ours(address, p, out, taken),
-        Answer::Refused(n) => put_refusal(n, out, taken),
+        Ok(answer) => {
+            put_reception(answer.reception, out);
+            out.put_byte(b' ');
+            out.put_hex(&answer.progress.acknowledgement.to_be_bytes());
+            if answer.progress.whole {
+                out.put_bytes(b" yes");
+            } else {
+                out.put_bytes(b" no");
+            }
+        }
+        Err(refusal) => put_refusal(refusal, out),
     }
 }
 
-fn put_not_ours(address: u32, p: Progress, out: &mut [u8], taken: usize) -> usize {
-    let named = text::put_bytes(out, taken, b" notours ");
-    let next = text::put_word(out, named, address);
-    put_progress(b"", p, out, next)
-}
-
-pub(crate) fn put_refusal(n: u32, out: &mut [u8], taken: usize) -> usize {
-    let named = text::put_bytes(out, taken, b" refused ");
-    let next = text::put_decimal(out, named, n);
-    text::put_bytes(out, next, b" - -")
-}
-
-fn put_progress(before: &[u8], p: Progress, out: &mut [u8], taken: usize) -> usize {
-    let named = text::put_bytes(out, taken, before);
-    let next = put_bits(p.acknowledgement, out, named);
-    if p.whole {
-        text::put_bytes(out, next, b" yes")
-    } else {
-        text::put_bytes(out, next, b" no")
+fn put_reception(reception: Reception, out: &mut Output<'_>) {
+    match reception {
+        Reception::Own => out.put_bytes(b" own -"),
+        Reception::AllCall => out.put_bytes(b" allcall -"),
+        Reception::Broadcast => out.put_bytes(b" broadcast -"),
+        Reception::NotOurs(address) => {
+            out.put_bytes(b" notours ");
+            out.put_word(address);
+        }
     }
 }
 
-// 16 bits in four digits.
-fn put_bits(bits: u16, out: &mut [u8], taken: usize) -> usize {
-    let next = text::put_byte(out, taken, b' ');
-    let pair = [(bits / 256 % 256) as u8, (bits % 256) as u8];
-    text::put_hex(out, next, &pair)
+fn put_refusal(refusal: Refusal, out: &mut Output<'_>) {
+    out.put_bytes(b" refused ");
+    out.put_decimal(u64::from(u32::from(refusal)));
+    out.put_bytes(b" - -");
 }
 
 // The bytes of the segments held, in the order of their numbers, `-` for none.
-pub(crate) fn put_held(held: u16, segments: &[u8], out: &mut [u8], taken: usize) -> usize {
-    let next = text::put_byte(out, taken, b' ');
+pub(crate) fn put_held(held: u16, segments: &[u8; 160], out: &mut Output<'_>) {
+    out.put_byte(b' ');
     if held == 0 {
-        text::put_byte(out, next, b'-')
-    } else {
-        put_segments(held, segments, out, next)
+        out.put_byte(b'-');
     }
-}
-
-fn put_segments(held: u16, segments: &[u8], out: &mut [u8], taken: usize) -> usize {
-    let mut next = taken;
-    let mut n: u8 = 0;
-    while n < 16 {
-        next = put_segment(held, n, segments, out, next);
-        n += 1;
-    }
-    next
-}
-
-fn put_segment(held: u16, n: u8, segments: &[u8], out: &mut [u8], taken: usize) -> usize {
-    let from = n as usize * 10;
-    let to = from + 10;
-    if uplink_elm::is_held(held, n) {
-        if to <= segments.len() {
-            return text::put_hex(out, taken, &segments[from..to]);
+    for (number, segment) in (0u8..16).zip(segments.chunks_exact(10)) {
+        if uplink_elm::is_held(held, number) {
+            out.put_hex(segment);
         }
     }
-    taken
+}
+
+// The answer of a call of the sender, and the buffer after it.
+pub(crate) fn put_sent(answer: Result<usize, Refusal>, buffer: &[u8], out: &mut Output<'_>) {
+    match answer {
+        Ok(n) => {
+            out.put_bytes(b" sent ");
+            out.put_decimal(n as u64);
+            out.put_bytes(b" - -");
+        }
+        Err(refusal) => put_refusal(refusal, out),
+    }
+    out.put_byte(b' ');
+    if buffer.is_empty() {
+        out.put_byte(b'-');
+    } else {
+        out.put_hex(buffer);
+    }
 }

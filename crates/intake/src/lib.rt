@@ -4,47 +4,45 @@
 // own input are not known.
 #![tactic(auto)]
 
-ghost use Rattle.std.specs.Prelude.{◌≡◌, ◌<◌, ◌≤◌, false, length, take};
+ghost use Rattle.std.specs.Prelude.{◌<◌, ◌≤◌, length, take, OnOk};
 ghost use Rattle.std.specs.Io.KnownBytes.{Consumes, IsAtEnd};
 
+use std::io;
 use std::io::Read;
 
-// How many bytes stand at the start of the buffer, and whether a read failed.
-#[derive(Clone, Copy)]
+// How many bytes stand at the start of the buffer, and the error of the read that failed after them.
+#[derive(Debug, Drop)]
 pub struct Filled {
     pub size: usize,
-    pub failed: bool,
+    pub ended: io::Result<()>,
 }
 
 // Reads until the buffer is full, the input ends or a read fails. An empty buffer takes no read.
 pub fn read_full<R: Read>(input: &mut R, buf: &mut [u8]) -> Filled
     ensures in_bounds { result.size ≤ length buf.new }
     ensures bytes { Consumes (R.remaining input.old) (R.remaining input.new) (take result.size buf.new) }
-    ensures end { result.failed ≡ false → result.size < length buf.new → IsAtEnd (R.remaining input.new) }
+    ensures end { OnOk result.ended (result.size < length buf.new → IsAtEnd (R.remaining input.new)) }
 {
     let mut size = 0;
     while size < buf.len() {
         match input.read(&mut buf[size..]) {
-            Ok(0) => {
-                return Filled {
-                    size,
-                    failed: false,
-                };
-            }
+            Ok(0) => break,
             Ok(n) => size += n,
-            Err(_) => return Filled { size, failed: true },
+            Err(error) => return Filled {
+                size,
+                ended: Err(error),
+            },
         }
     }
     Filled {
         size,
-        failed: false,
+        ended: Ok(()),
     }
 }
 
 #[cfg(test)]
 mod tests {
     use super::*;
-    use std::io;
     use std::io::ErrorKind;
     use std::test::Fail;
 
@@ -74,7 +72,7 @@ mod tests {
         let mut buf = [0u8; 5];
         let read = read_full(&mut input, &mut buf);
         assert_eq!(rt; read.size, 3);
-        assert!(rt; !read.failed);
+        assert!(rt; read.ended.is_ok());
         assert_eq!(rt; buf, [97, 98, 99, 0, 0]);
         Ok(())
     }
@@ -85,7 +83,7 @@ mod tests {
         let mut buf = [0u8; 2];
         let read = read_full(&mut input, &mut buf);
         assert_eq!(rt; read.size, 2);
-        assert!(rt; !read.failed);
+        assert!(rt; read.ended.is_ok());
         assert_eq!(rt; buf, [3, 2]);
         assert_eq!(rt; input.left, 1);
         Ok(())
@@ -97,7 +95,7 @@ mod tests {
         let mut buf = [0u8; 4];
         let read = read_full(&mut input, &mut buf);
         assert_eq!(rt; read.size, 2);
-        assert!(rt; read.failed);
+        assert!(rt; read.ended.is_err());
         assert_eq!(rt; buf, [2, 1, 0, 0]);
         Ok(())
     }

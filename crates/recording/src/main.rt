@@ -5,134 +5,73 @@
 // something was said.
 #![tactic(auto)]
 
+use console::Console;
+use std::fmt;
 use std::io::{Read, Write};
-use stream::State;
+use stream::{Refused, State};
 
-fn main(rt: HostRuntime) {
-    run(&mut rt.stdin(), &mut rt.stdout(), &mut rt.stderr());
+// Why what follows is not answered.
+#[derive(Clone, Copy, Debug)]
+enum Failure {
+    Unread,
+    Unwritten,
+    TooManyLines,
+    TooManyPieces,
 }
 
-fn run<R: Read, W: Write, E: Write>(input: &mut R, output: &mut W, errors: &mut E) {
-    let mut out = [0u8; 255616];
-    let begun = stream::begin(&mut out);
-    if write(output, errors, &out, begun.taken) {
-        answer_all(input, output, errors, begun.state, &mut out);
+impl fmt::Display for Failure {
+    fn fmt<W: fmt::Write>(&self, f: &mut fmt::Formatter<W>) -> fmt::Result {
+        match self {
+            Failure::Unread => write!(f, "standard input could not be read to its end"),
+            Failure::Unwritten => write!(f, "standard output could not be written to its end"),
+            Failure::TooManyLines => write!(
+                f,
+                "9,223,372,036,854,775,808 lines have ended: what follows is not answered"
+            ),
+            Failure::TooManyPieces => write!(
+                f,
+                "the input came in more than 18,446,744,073,709,551,615 pieces: what follows is not answered"
+            ),
+        }
+    }
+}
+
+impl From<Refused> for Failure {
+    fn from(_refused: Refused) -> Failure {
+        Failure::TooManyLines
+    }
+}
+
+fn main(rt: HostRuntime) {
+    let mut console = Console {
+        program: "recording",
+        input: rt.stdin(),
+        output: rt.stdout(),
+        errors: rt.stderr(),
+    };
+    if let Err(failure) = run(&mut console) {
+        console.say(&failure);
     }
 }
 
 // A proved loop has to end, and nothing says that an input does. So the loop has as many turns as no run uses up.
-fn answer_all<R: Read, W: Write, E: Write>(
-    input: &mut R,
-    output: &mut W,
-    errors: &mut E,
-    state: State,
-    out: &mut [u8; 255616],
-) {
-    let mut turn = Turn {
-        state: state,
-        more: true,
-    };
-    for _ in 0..u64::MAX {
-        if !turn.more {
-            break;
-        }
-        turn = answer_piece(input, output, errors, turn.state, out);
-    }
-    if turn.more {
-        say(
-            errors,
-            b"recording: the input came in more than 18,446,744,073,709,551,615 pieces: what follows is not answered\n",
-        );
-    }
-}
-
-// What stands between two pieces, and whether there may be a further one.
-#[derive(Drop)]
-struct Turn {
-    state: State,
-    more: bool,
-}
-
-// Reads a piece and answers it, or finishes at the end of the input.
-fn answer_piece<R: Read, W: Write, E: Write>(
-    input: &mut R,
-    output: &mut W,
-    errors: &mut E,
-    state: State,
-    out: &mut [u8; 255616],
-) -> Turn {
+fn run<R: Read, W: Write, E: Write>(console: &mut Console<R, W, E>) -> Result<(), Failure> {
     let mut piece = [0u8; 4096];
-    match input.read(&mut piece) {
-        Ok(0) => {
-            answer_end(output, errors, state, out);
-            Turn {
-                state: state,
-                more: false,
-            }
+    let mut out = [0u8; 255616];
+    let (mut state, header) = State::begin(&mut out);
+    write(&mut console.output, &out[..header])?;
+    for _ in 0..u64::MAX {
+        let size = console.input.read(&mut piece).map_err(|_| Failure::Unread)?;
+        if size == 0 {
+            let last = state.finish(&mut out)?;
+            return write(&mut console.output, &out[..last]);
         }
-        Ok(size) => {
-            let step = stream::feed(state, &piece[..size], out);
-            Turn {
-                state: step.state,
-                more: answered(output, errors, out, step.taken, step.refused),
-            }
-        }
-        Err(_) => {
-            say(
-                errors,
-                b"recording: standard input could not be read to its end\n",
-            );
-            Turn {
-                state: state,
-                more: false,
-            }
-        }
+        let answered = state.feed(&piece[..size], &mut out)?;
+        write(&mut console.output, &out[..answered])?;
     }
+    Err(Failure::TooManyPieces)
 }
 
-fn answer_end<W: Write, E: Write>(
-    output: &mut W,
-    errors: &mut E,
-    state: State,
-    out: &mut [u8; 255616],
-) {
-    let last = stream::finish(state, out);
-    answered(output, errors, out, last.taken, last.refused);
-}
-
-// Writes what a call left, and says whether it was not refused and all of it was written.
-fn answered<W: Write, E: Write>(
-    output: &mut W,
-    errors: &mut E,
-    out: &[u8],
-    taken: usize,
-    refused: bool,
-) -> bool {
-    if refused {
-        say(
-            errors,
-            b"recording: 9,223,372,036,854,775,808 lines have ended: what follows is not answered\n",
-        );
-        return false;
-    }
-    write(output, errors, out, taken)
-}
-
-// Writes the first bytes of the output buffer.
-fn write<W: Write, E: Write>(output: &mut W, errors: &mut E, out: &[u8], taken: usize) -> bool {
-    if taken <= out.len() {
-        if output.write_all(&out[0..taken]).is_ok() {
-            return true;
-        }
-    }
-    say(
-        errors,
-        b"recording: standard output could not be written to its end\n",
-    );
-    false
-}
-
-// Whether standard error takes it can no longer be said anywhere.
-fn say<E: Write>(errors: &mut E, what: &[u8]) {
-    let _ = errors.write_all(what);
+fn write<W: Write>(output: &mut W, bytes: &[u8]) -> Result<(), Failure> {
+    output.write_all(bytes).map_err(|_| Failure::Unwritten)
 }

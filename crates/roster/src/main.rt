@@ -11,96 +11,26 @@
 //
 // What went wrong is said on standard error, and nothing else is; the exit status stays 0. bin/roster ends with 1 where
 // something was said.
-//
-// The records are in one array of answer_all, and four functions beside it take them (table.rt); the rest takes a line,
-// a record or what a call answered by value.
 #![tactic(auto)]
-
-ghost use Rattle.std.specs.Prelude.{◌≤◌, ◌≡◌, length};
 
 mod answers;
 mod lines;
-mod numbers;
-mod places;
 mod table;
-mod turns;
 
-use intake::Filled;
-use std::io::{Read, Write};
-use turns::Turn;
+use console::Console;
+use table::Roster;
+
+// The longest answered line: a number of five digits, ` shown `, a count of 20, 1024 places of five digits and 1024 records of 45
+// bytes, each with a comma or a space, and a line feed.
+const LONGEST: usize = 53281;
 
 fn main(rt: HostRuntime) {
-    run(&mut rt.stdin(), &mut rt.stdout(), &mut rt.stderr());
-}
-
-fn run<R: Read, W: Write, E: Write>(input: &mut R, output: &mut W, errors: &mut E) {
-    let mut bytes = input_buffer();
-    let read = intake::read_full(input, &mut bytes);
-    say_of_input(errors, read);
-    let written = if read.size <= 65536 {
-        let mut out = [0u8; 65536];
-        answer_to_end(output, &bytes[..read.size], &mut out)
-    } else {
-        output.write_all(b"too long\n").is_ok()
+    let mut console = Console {
+        program: "roster",
+        input: rt.stdin(),
+        output: rt.stdout(),
+        errors: rt.stderr(),
     };
-    if !written {
-        say(
-            errors,
-            b"roster: standard output could not be written to its end\n",
-        );
-    }
-}
-
-fn say_of_input<E: Write>(errors: &mut E, read: Filled) {
-    if 65536 < read.size {
-        say(
-            errors,
-            b"roster: the input is above 65,536 bytes, too long: no line is answered\n",
-        );
-    } else {
-        if read.failed {
-            say(
-                errors,
-                b"roster: standard input could not be read to its end\n",
-            );
-        }
-    }
-}
-
-// Whether standard error takes it can no longer be said anywhere.
-fn say<E: Write>(errors: &mut E, what: &[u8]) {
-    let _ = errors.write_all(what);
-}
-
-// One byte more than the longest input has.
-fn input_buffer() -> [u8; 65537]
-    ensures { 65537 ≡ length result }
-{
-    [0; 65537]
-}
-
-// Whether all of the output was written.
-fn answer_to_end<W: Write>(output: &mut W, input: &[u8], out: &mut [u8]) -> bool
-    requires { length input.now ≤ 65536 }
-{
-    let last = answer_all(output, input, out);
-    turns::write(output, out, last.taken, last.written)
-}
-
-// Answers every line.
-fn answer_all<W: Write>(output: &mut W, input: &[u8], out: &mut [u8]) -> Turn
-    requires { length input.now ≤ 65536 }
-    ensures { length input.now ≤ result.at }
-{
-    let mut records = [rollcall_table::blank(); 1024];
-    let mut places = [0u16; 1024];
-    let mut turn = turns::first();
-    while turns::goes_on(turn, input) {
-        let next = turns::following(turn, input);
-        let r = turns::records_of(next);
-        let p = turns::places_of(next);
-        let answered = table::answer(output, &mut records[..r], &mut places[..p], out, next);
-        turn = answered;
-    }
-    turn
+    let mut roster = Roster::new();
+    console.answer_lines(LONGEST, |columns, out| roster.answer(columns, out));
 }

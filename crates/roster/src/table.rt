@@ -1,76 +1,121 @@
-// The functions that touch the table's records: one sets them as a line says, one makes the call of a line, one prints
-// them, and one answers a line by these three.
-ghost use Rattle.std.specs.Prelude.{◌≤◌, ◌≡◌, length};
-
-use crate::lines::Line;
-use crate::turns::Turn;
-use crate::{answers, lines, places, turns};
+// The table that the lines set, call and print. The memory is fixed: a table of the longest lengths, of which a line asks for parts.
+use crate::answers::{put_answer, put_list, put_record};
+use crate::lines;
+use crate::lines::{Call, Line, TableLength};
 use rollcall::{Record, Reply};
-use std::io::Write;
+use text::Output;
 
-// Answers the line of a turn, and gives the turn that it leaves.
-pub(crate) fn answer<W: Write>(
-    output: &mut W,
-    records: &mut [Record],
-    places: &mut [u16],
-    out: &mut [u8],
-    t: Turn,
-) -> Turn
-    ensures { (result.at ≡ t.at) × (result.number ≡ t.number) }
-{
-    let line = turns::line_of(t);
-    set_all(records, line);
-    places::set_all(places, line);
-    let reply = call(records, places, turns::count_of(t), line);
-    let told = answers::put(output, out, t, reply);
-    let listed = places::put_all(places, out, told);
-    let taken = put_all(records, out, listed);
-    answers::end(out, listed, taken)
+// The first records and the first places are the table's.
+#[derive(Drop)]
+pub(crate) struct Roster {
+    records: [Record; 1024],
+    places: [u16; 1024],
+    sizes: Sizes,
 }
 
-// Sets the records as a line says.
-fn set_all(records: &mut [Record], line: Line)
-    ensures { length records.new ≡ length records.old }
-{
-    let mut i: usize = 0;
-    while i < records.len() {
-        let r = records[i];
-        records[i] = lines::record_after(line, i, r);
-        i = i + 1;
+// How many of each are the table's, and the count that is passed in and returned.
+#[derive(Clone, Copy)]
+struct Sizes {
+    records: TableLength,
+    places: TableLength,
+    count: usize,
+}
+
+impl Roster {
+    // As after `table 16 16`.
+    pub(crate) fn new() -> Roster {
+        Roster {
+            records: [rollcall_table::blank(); 1024],
+            places: [0; 1024],
+            sizes: Sizes {
+                records: TableLength { n: 16 },
+                places: TableLength { n: 16 },
+                count: 0,
+            },
+        }
+    }
+
+    // Does what a line asks for, and appends the answer, the count after the line, and what an answer of a call has more.
+    pub(crate) fn answer(&mut self, columns: &[&[u8]], out: &mut Output<'_>) {
+        match lines::read(columns) {
+            None => self.put(b" malformed", out),
+            Some(Line::Table { records, places }) => {
+                self.reset(records, places);
+                self.put(b" table", out);
+            }
+            Some(Line::Count(count)) => {
+                self.sizes.count = count;
+                self.put(b" set", out);
+            }
+            Some(Line::Place { index, place }) => {
+                let named = set(&mut self.places[..self.sizes.places.n], index, place);
+                self.put(named, out);
+            }
+            Some(Line::Record { index, record }) => {
+                let named = set(&mut self.records[..self.sizes.records.n], index, record);
+                self.put(named, out);
+            }
+            Some(Line::Call(call)) => {
+                let reply = self.call(call);
+                self.sizes.count = reply.count;
+                put_answer(reply, out);
+            }
+            Some(Line::Show) => {
+                self.put(b" shown", out);
+                put_list(&self.places[..self.sizes.places.n], out, |place, out| {
+                    out.put_decimal(u64::from(*place));
+                });
+                put_list(&self.records[..self.sizes.records.n], out, put_record);
+            }
+        }
+    }
+
+    // A table that is all zero and not live.
+    fn reset(&mut self, records: TableLength, places: TableLength) {
+        self.records = [rollcall_table::blank(); 1024];
+        self.places = [0; 1024];
+        self.sizes = Sizes {
+            records,
+            places,
+            count: 0,
+        };
+    }
+
+    fn call(&mut self, call: Call) -> Reply {
+        let sizes = self.sizes;
+        let Roster {
+            records,
+            places,
+            ..
+        } = self;
+        make(call, records, places, sizes)
+    }
+
+    fn put(&self, answer: &[u8], out: &mut Output<'_>) {
+        out.put_bytes(answer);
+        out.put_byte(b' ');
+        out.put_decimal(self.sizes.count as u64);
     }
 }
 
-// Makes the call of a line; a line that is none has the count for its reply.
-fn call(records: &mut [Record], places: &mut [u16], count: usize, line: Line) -> Reply
-    ensures { length records.new ≡ length records.old }
-{
-    let n = lines::call_number(line);
-    if n < 1 {
-        return answers::no_call(count);
+fn make(call: Call, records: &mut [Record; 1024], places: &mut [u16; 1024], sizes: Sizes) -> Reply {
+    let records = &mut records[..sizes.records.n];
+    let places = &mut places[..sizes.places.n];
+    match call {
+        Call::Clear => rollcall::clear(records, places, sizes.count),
+        Call::Add(sighting) => rollcall::add_or_renew(records, places, sizes.count, sighting),
+        Call::Remove(address) => rollcall::remove(records, places, sizes.count, address),
+        Call::Find(address) => rollcall::find(records, places, sizes.count, address),
     }
-    if n < 2 {
-        return rollcall::clear(records, places, count);
-    }
-    if n < 3 {
-        return rollcall::find(records, places, count, lines::address_of(line));
-    }
-    if n < 4 {
-        return rollcall::remove(records, places, count, lines::address_of(line));
-    }
-    rollcall::add_or_renew(records, places, count, lines::sighting_of(line))
 }
 
-// Prints the records where the line asks for them; what is taken of the output buffer then.
-fn put_all(records: &[Record], out: &mut [u8], t: Turn) -> usize
-    ensures { length out.new ≡ length out.old }
-{
-    let end = answers::shown(t, records.len());
-    let mut taken = answers::open_list(out, t, end);
-    let mut i: usize = 0;
-    while i < end {
-        let r = records[i];
-        taken = answers::put_record(out, taken, i, r);
-        i = i + 1;
+// Sets an item, if there is one at the index, and answers so.
+fn set<T: Copy>(items: &mut [T], index: usize, item: T) -> &'static [u8] {
+    match items.get_mut(index) {
+        Some(place) => {
+            *place = item;
+            b" set"
+        }
+        None => b" outside",
     }
-    taken
 }

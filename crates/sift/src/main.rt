@@ -7,44 +7,31 @@
 // something was said.
 #![tactic(auto)]
 
-use intake::Filled;
+ghost use Rattle.std.specs.Prelude.{IsTrue, IfSome};
+ghost use Rattle.std.specs.Io.KnownBytes.{Appends};
+ghost use Rattle.report.specs.Sift.{sift_output};
+
+use console::Console;
 use std::io::{Read, Write};
 
 fn main(rt: HostRuntime) {
-    run(&mut rt.stdin(), &mut rt.stdout(), &mut rt.stderr());
+    let mut console = Console {
+        program: "sift",
+        input: rt.stdin(),
+        output: rt.stdout(),
+        errors: rt.stderr(),
+    };
+    run(&mut console);
 }
 
-fn run<R: Read, W: Write, E: Write>(input: &mut R, output: &mut W, errors: &mut E) {
+// Whether all was read and written.
+fn run<R: Read, W: Write, E: Write>(console: &mut Console<R, W, E>) -> bool
+    ensures { IsTrue result → IfSome (R.remaining console.old.input) (λ xs. Appends (W.contents console.old.output) (W.contents console.new.output) (sift_output xs)) }
+{
     let mut bytes = [0u8; 65537];
-    let read = intake::read_full(input, &mut bytes);
-    say_of_input(errors, read);
+    let read = console.read(&mut bytes, "answered");
     let mut out = [0u8; 1572928];
     let length = report::sift(&bytes[..read.size], &mut out);
-    if output.write_all(&out[..length]).is_err() {
-        say(
-            errors,
-            b"sift: standard output could not be written to its end\n",
-        );
-    }
-}
-
-fn say_of_input<E: Write>(errors: &mut E, read: Filled) {
-    if 65536 < read.size {
-        say(
-            errors,
-            b"sift: the input is above 65,536 bytes, too long: no line is answered\n",
-        );
-    } else {
-        if read.failed {
-            say(
-                errors,
-                b"sift: standard input could not be read to its end\n",
-            );
-        }
-    }
-}
-
-// Whether standard error takes it can no longer be said anywhere.
-fn say<E: Write>(errors: &mut E, what: &[u8]) {
-    let _ = errors.write_all(what);
+    let written = console.write(&out[..length]);
+    read.ended.is_ok() && written.is_ok()
 }

@@ -1,0 +1,3 @@
+-- The laws of the crate.
+pub mod Input
+pub mod Laws

@@ -1,0 +1,10 @@
+// What the programs share: a console, the lines of an input, and the forms of their arguments.
+#![tactic(auto)]
+
+mod arguments;
+mod lines;
+mod streams;
+
+pub use arguments::{bytes, number, word};
+pub use lines::columns;
+pub use streams::{Console, LIMIT};

@@ -1,0 +1,77 @@
+// The lines of an input and their columns, and the answering of an input line by line.
+ghost use Rattle.std.specs.Prelude.{◌≡◌, ◌<◌, map, take, length, IsTrue, IfSome};
+ghost use Rattle.std.specs.Io.KnownBytes.{Appends};
+ghost use Rattle.text.specs.Ascii.{ascii};
+ghost use Rattle.reading.specs.Lines.{columns};
+
+use crate::streams::{Console, LIMIT};
+use arrayvec::ArrayVec;
+use reading::Lines;
+use std::io;
+use std::io::{Read, Write};
+use text::Output;
+
+// The columns of a line, parted by one space each: the first eight, one more than any call has.
+pub fn columns<'a>(line: &'a [u8]) -> ArrayVec<&'a [u8], 8>
+    ensures { map (λ c. c.now) result.items ≡ take 8 (columns line.now) }
+{
+    let mut columns = ArrayVec::new();
+    for column in line.split(|b| *b == b' ').take(8) {
+        let _ = columns.try_push(column);
+    }
+    columns
+}
+
+impl<R: Read, W: Write, E: Write> Console<R, W, E> {
+    // Reads the input and writes for each line its number from 1, what `answer` appends for its columns, and a line feed; says
+    // whether all was read and written. An answered line has at most `longest` bytes. An input above the limit is too long, and
+    // that is all that is written.
+    pub fn answer_lines<F: FnMut(&[&[u8]], &mut Output<'_>)>(
+        &mut self,
+        longest: usize,
+        answer: F,
+    ) -> bool
+        requires { F.IsAlwaysCallable answer }
+        ensures { IsTrue result → IfSome (R.remaining self.old.input) (λ xs. 65536 < length xs → Appends (W.contents self.old.output) (W.contents self.new.output) (ascii "too long\n")) }
+    {
+        let mut bytes = [0u8; 65537];
+        let read = self.read(&mut bytes, "answered");
+        let written = if read.size <= LIMIT {
+            self.answer_input(&bytes[..read.size], longest, answer)
+        } else {
+            self.write(b"too long\n")
+        };
+        read.ended.is_ok() && written.is_ok()
+    }
+
+    fn answer_input<F: FnMut(&[&[u8]], &mut Output<'_>)>(
+        &mut self,
+        input: &[u8],
+        longest: usize,
+        mut answer: F,
+    ) -> io::Result<()>
+        requires { F.IsAlwaysCallable answer }
+    {
+        let mut buffer = [0u8; 65536];
+        let mut out = Output::new(&mut buffer);
+        for (number, line) in (1..=LIMIT as u64).zip(Lines::new(input)) {
+            out.put_decimal(number);
+            answer(columns(line).as_slice(), &mut out);
+            out.put_byte(b'\n');
+            if out.buffer.len() < out.taken.saturating_add(longest) {
+                self.flush(&mut out)?;
+            }
+        }
+        self.flush(&mut out)
+    }
+
+    // Writes what is taken of the output buffer.
+    fn flush(&mut self, out: &mut Output<'_>) -> io::Result<()> {
+        let taken = out.taken;
+        if let Some(bytes) = out.buffer.get(..taken) {
+            self.write(bytes)?;
+        }
+        out.taken = 0;
+        Ok(())
+    }
+}
