@@ -12,7 +12,8 @@ ghost use Rattle.altitude.specs.Answers.{said_altitude, said_writing, checked, r
 use altitude_code::Decoded;
 use outcome::{Refusal, refuse_unless};
 
-// Whether an altitude was written; a reply in another format than 4 and 20 has no such field.
+// Whether an altitude was written; a reply in another format than 4 and 20 has no such field. Two names, which an Option of nothing
+// would not give a caller.
 #[derive(Clone, Copy, Debug, PartialEq, Eq)]
 pub enum Writing {
     Written,
@@ -48,17 +49,14 @@ fn check(m: &[u8]) -> Result<(), Refusal>
     refuse_unless(message::first_bit_agrees(m), Refusal::FirstBitContradicts)
 }
 
-// Reads the altitude of a message of at least four bytes.
+// Reads the altitude of a message of at least four bytes. That it has four stands in four contracts: they are lent the message, as
+// the calls are, and an array of its first four bytes would be taken from it and put back.
 #[tactic(auto, unfolding(crate::specs::Answers::reading_of))]
 fn read_field(m: &[u8]) -> Option<Decoded>
     requires { 4 ≤ length m.now }
     ensures { result ≡ reading_of m.now }
 {
-    if has_altitude(m) {
-        Some(altitude_code::decode(code_in(m)))
-    } else {
-        None
-    }
+    has_altitude(m).then(|| altitude_code::decode(code_in(m)))
 }
 
 // Writes a code in a message of at least four bytes, if its format has an altitude.
@@ -103,8 +101,7 @@ fn write_code(m: &mut [u8], code: u32)
     ensures { m.new ≡ with_code m.old code }
 {
     let kept = m[2] / 32;
-    let upper = code / 256;
-    let lower = code % 256;
-    m[2] = kept * 32 + upper as u8;
-    m[3] = lower as u8;
+    let [_, _, upper, lower] = code.to_be_bytes();
+    m[2] = kept * 32 + upper;
+    m[3] = lower;
 }

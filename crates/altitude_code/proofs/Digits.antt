@@ -1,15 +1,15 @@
 -- The bits of a code: how large the numbers are that are read from them, and how the code gathers eleven of them in pieces.
 use mathlib.Core.Path.{◌≡◌, refl, ap, ◌∙◌}
-use Prim.Native.Nat.{ℕ, suc, ◌+◌, ◌*◌, ◌/◌, ◌%◌, ◌^◌, ◌<◌}
+use Prim.Native.Nat.{ℕ, suc, ◌+◌, ◌*◌, ◌/◌, ◌%◌, ◌^◌, ◌<◌, ◌≤◌}
 use native.Mathlib.Nat.{mod-lt, pow-suc}
 use native.Mathlib.Omega.{arith}
 use lib.Dec.{eqb, lit<}
 use lib.ListN.{length, get_or, take}
 use mathlib.Core.List.{List, [], ◌∷◌, ◌++◌, map}
+use lib.Seq.{length-take-le}
 use lib.Pow.{mod-pow-add, shr-shr}
 use borrow.Author.Tests.{eqb-true}
-use Rattle.std.proofs.lemmas.List.{take_more, map-append, length-append}
-use Rattle.std.proofs.lemmas.Grind.{pow_more}
+use Rattle.std.proofs.lemmas.List.{take_more, map-append, length-append, length-map}
 use Rattle.std.proofs.Math.Pow.{pow_mono}
 use Rattle.outcome.proofs.Laws.{every, tested}
 use Rattle.altitude_code.specs.Codes.{binary, digit, eleven_bits, gray_bits, c_bits}
@@ -61,11 +61,23 @@ gathered_more k places i h =
     ∙ ap binary (map-append (digit k) (take i places) (get_or places i 0 ∷ []))
     ∙ binary-more (map (digit k) (take i places)) (digit k (get_or places i 0))
 
-pub gathered_lt : (n b i : ℕ) → n < 2 ^ i → b < 2 → n * 2 + b < 2 ^ (i + 1)
-gathered_lt n b i h l = let power = pow_more 2 i in omega arith
+one_more : (b p r : ℕ) → b < 2 → r < p → b * p + r < p * 2
+one_more b p r h l = grind arith
+
+binary_lt : (k : ℕ) (places : List ℕ) → binary (map (digit k) places) < 2 ^ length places
+unfolding binary
+binary_lt k [] = lit< tt
+binary_lt k (i ∷ places) =
+    let same = ap (λ (n : ℕ). digit k i * 2 ^ n) (length-map places (digit k)) in
+    let power : 2 ^ suc (length places) ≡ 2 ^ length places * 2 = pow-suc 2 (length places) in
+    let less = one_more (digit k i) (2 ^ length places) (binary (map (digit k) places)) (bit_lt k i) (binary_lt k places) in
+    omega arith
+
+pub gathered_lt : (k : ℕ) (places : List ℕ) (i : ℕ) → i ≤ length places → binary (map (digit k) (take i places)) < 2 ^ i
+gathered_lt k places i h = let size = length-take-le i places h in rw size at (binary_lt k (take i places))
 
 -- what fits where a bit is gathered
-pub ruleset gathering = (bit_lt, gathered_lt, pow_mono)
+pub ruleset gathering = (bit_lt, gathered_lt, gathered_more, pow_mono)
 
 -- ---- the code of eleven bits
 

@@ -12,10 +12,9 @@ pub(crate) fn decode(code: u32) -> Decoded
     ensures { result ≡ decoded_by_100 (gray_number 8 (gray_bits code)) (place_in (c_bits code) c_patterns) }
 {
     let g = gray_number(bits::gray_bits(code));
-    match c_place(bits::c_bits(code)) {
-        Some(place) => Decoded::Feet(feet(500 * g + 100 * in_order(g, place))),
-        None => Decoded::Illegal,
-    }
+    c_place(bits::c_bits(code)).map_or(Decoded::Illegal, |place| {
+        Decoded::Feet(feet(500 * g + 100 * in_order(g, place)))
+    })
 }
 
 // The number whose Gray code this is: each bit is the sum of the bits from the top down to it, without carries.
@@ -30,7 +29,7 @@ fn gray_number(v: u32) -> u32
     two ^ (two / 2)
 }
 
-// The place of C1 C2 C4 in 001, 011, 010, 110, 100.
+// The place of C1 C2 C4 in 001, 011, 010, 110, 100, or None where it is none of them.
 #[tactic(auto, unfolding(crate::specs::Altitudes::place_in))]
 fn c_place(c: u32) -> Option<u32>
     ensures { MatchOption result (5 ≡ place_in c c_patterns) (λ place. (place ≡ place_in c c_patterns) × (place < 5)) }

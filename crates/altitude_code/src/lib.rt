@@ -60,11 +60,8 @@ fn steps_from(above: u32, low: u32, high: u32, step: u32) -> Option<u32>
     ensures value { result ≡ steps_from low high step above }
     ensures bound { IfSome result (λ steps. low + steps * step ≤ high) }
 {
-    if (low..=high).contains(&above) && above % step == 0 {
-        Some((above - low) / step)
-    } else {
-        None
-    }
+    let is_a_step = (low..=high).contains(&above) && above % step == 0;
+    is_a_step.then(|| (above - low) / step)
 }
 
 // Feet above −1200 as an altitude.
@@ -72,7 +69,7 @@ pub(crate) fn feet(above: u32) -> i32
     requires { above ≤ 127900 }
     ensures { result ≡ pos above -ℤ pos 1200 }
 {
-    above as i32 - 1200
+    (-1200_i32).checked_add_unsigned(above).unwrap()
 }
 
 // An altitude as feet above −1200, or None of a lower one.

@@ -114,7 +114,8 @@ const PATTERNS: [u32; 1280] = [
     0x0406, 0x1406, 0x1006, 0x1004, 0x1404, 0x0404, 0x0504, 0x0104,
 ];
 
-// The pattern of one of the 1280 altitudes.
+// The pattern of one of the 1280 altitudes. The place is cast: where `usize::try_from` is called first, the check no longer sees the
+// numbers of the table.
 pub(crate) fn pattern(step: u32) -> u32
     requires { step < 1280 }
     ensures { result ≡ code_by_100 step }

@@ -1,24 +1,22 @@
--- How the companion's answer splits by its tests, and where a part starts. The idea: each answer has its condition (`Case`), and
--- the definition picks the one answer whose condition holds.
+-- How the companion's answer splits by its tests. The idea: each answer has its condition (`Case`), and the definition picks the
+-- one answer whose condition holds.
 use mathlib.Core.Path.{◌≡◌, refl, sym, ap, ◌∙◌}
 use mathlib.Core.Bool.{Bool, true, false, not, cond}
-use mathlib.Core.List.{List, []}
-use Prim.Native.Nat.{ℕ, ◌+◌, ◌-◌, ◌<◌, ◌≤◌}
-use native.Mathlib.Nat.{zero-add}
+use mathlib.Core.List.{List}
+use Prim.Native.Nat.{ℕ, ◌<◌, ◌≤◌}
 use lib.Dec.{eqb, ltb}
-use lib.ListN.{length, take}
 use borrow.Author.Tests.{lt-ltb, le-ltb, ltb-true, ltb-false}
 use Rattle.outcome.specs.Outcomes.{Outcome, unless, Unrefused}
 use Rattle.outcome.specs.Outcomes.Outcome.{refusal, answer}
 use Rattle.outcome.specs.Refusals.{word_too_large, own_address_reserved}
 use Rattle.std.specs.Prelude.{Option, Some, None, Result, Ok, Err}
+use Rattle.std.specs.Bool.{then_some}
 use Rattle.outcome.specs.declared.Refusal.{Refusal}
 use Rattle.outcome.specs.declared.Refusal.TheVariants.{WordTooLarge, OwnAddressReserved}
 use Rattle.outcome.proofs.Laws.{never, refusal_is_no_answer, said_by_injective}
 use Rattle.message.specs.Message.{is_word}
-use Rattle.message.proofs.Laws.{field_is}
 use Rattle.transponder.specs.Receptions.{is_reserved}
-use Rattle.antennas.specs.Antennas.{chosen, choice_of, antenna_of, answered, said, Part, field_of, empty_of}
+use Rattle.antennas.specs.Antennas.{chosen, chosen_of, choice_of, antenna_of, answered, said}
 use Rattle.antennas.specs.declared.Antenna.{Antenna}
 use Rattle.antennas.specs.declared.Antenna.TheVariants.{Upper, Lower}
 
@@ -102,14 +100,10 @@ pub said_injective : (x y : Result (Option Antenna) Refusal) → said x ≡ said
 said_injective =
     said_by_injective answered (λ x y e. sym (unanswered-answered x) ∙ ap unanswered e ∙ unanswered-answered y) no_refusal
 
--- ---- a part from the first byte on starts where its buffer does
+-- ---- a level where the buffer is taken
 
-module _ (b : Part) where
-  starts : (l : List ℕ) → ◌≡◌ {A = Part} ((b.0.0, 0 + b.0.1), l) (b.0, l)
-  starts l = ap (λ (o : ℕ). ((b.0.0, o), l)) (zero-add b.0.1)
-
-  pub is-empty : ◌≡◌ {A = Part} ((b.0.0, 0 + b.0.1), []) (empty_of b)
-  is-empty = starts []
-
-  pub is_field : (n : ℕ) → n ≡ length b.1 - 3 → ◌≡◌ {A = Part} ((b.0.0, 0 + b.0.1), take n b.1) (field_of b)
-  is_field n e = starts (take n b.1) ∙ ap (λ (l : List ℕ). (b.0, l)) (ap (λ (k : ℕ). take k b.1) e ∙ sym (field_is b.1))
+pub levels : (s : Bool) (p : ℕ) (t : Bool) (q : ℕ) → chosen_of (then_some s p) (then_some t q) ≡ chosen s p t q
+levels true p true q = refl
+levels true p false q = refl
+levels false p true q = refl
+levels false p false q = refl

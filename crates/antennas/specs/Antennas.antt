@@ -22,6 +22,13 @@ chosen true p false q = Some Upper
 chosen false p true q = Some Lower
 chosen false p false q = None
 
+-- The same of the levels of the buffers that are taken.
+abbrev pub chosen_of : Option ℕ → Option ℕ → Option Antenna
+chosen_of (Some p) (Some q) = chosen true p true q
+chosen_of (Some p) None = Some Upper
+chosen_of None (Some q) = Some Lower
+chosen_of None None = None
+
 -- The answer for an own address that no row refuses: by the own address, the upper buffer and its level p, the lower
 -- buffer and its level q.
 abbrev pub choice_of : ℕ → List ℕ → ℕ → List ℕ → ℕ → Option Antenna

@@ -6,12 +6,12 @@
 
 ghost use Rattle.std.specs.Prelude.{◌≡◌};
 ghost use Rattle.transponder.specs.Receptions.{reception_outcome};
-ghost use Rattle.antennas.specs.Antennas.{field_of, is_taken, chosen, antenna_of, part_of};
+ghost use Rattle.antennas.specs.Antennas.{field_of, is_taken, chosen_of, antenna_of, part_of};
 
 use outcome::{Refusal, refuse_unless};
 use transponder::Reception;
 
-// The antenna whose buffer is taken.
+// The antenna whose buffer is taken. Other enums have two cases too, of another meaning.
 #[derive(Clone, Copy, Debug, PartialEq, Eq)]
 pub enum Antenna {
     Upper,
@@ -26,13 +26,12 @@ pub fn taken_field<'a>(own: u32, upper: &'a [u8], p: u8, lower: &'a [u8], q: u8)
     match taken_antenna(own, upper, p, lower, q) {
         Ok(Some(Antenna::Upper)) => field(upper),
         Ok(Some(Antenna::Lower)) => field(lower),
-        Ok(None) => &upper[0..0],
-        Err(_) => &upper[0..0],
+        Ok(None) | Err(_) => &upper[0..0],
     }
 }
 
 // Its companion: whose field that is, if one is taken.
-#[tactic(auto, using(outcome::proofs::Laws::rows), unfolding(crate::specs::Antennas::antenna_of))]
+#[tactic(auto, using(outcome::proofs::Laws::rows, crate::proofs::Choosing::levels), unfolding(crate::specs::Antennas::antenna_of))]
 pub fn taken_antenna(
     own: u32,
     upper: &[u8],
@@ -44,18 +43,21 @@ pub fn taken_antenna(
 {
     refuse_unless(message::is_word(own), Refusal::WordTooLarge)?;
     refuse_unless(!transponder::is_reserved(own), Refusal::OwnAddressReserved)?;
-    Ok(choose(is_taken(own, upper), p, is_taken(own, lower), q))
+    Ok(choose(
+        is_taken(own, upper).then_some(p),
+        is_taken(own, lower).then_some(q),
+    ))
 }
 
-// The higher level of those taken, and of equal levels the upper.
-fn choose(upper: bool, p: u8, lower: bool, q: u8) -> Option<Antenna>
-    ensures { result ≡ chosen upper p lower q }
+// The higher level of those taken, and of equal levels the upper; None is the level of a buffer that is not taken.
+fn choose(upper: Option<u8>, lower: Option<u8>) -> Option<Antenna>
+    ensures { result ≡ chosen_of upper lower }
 {
     match (upper, lower) {
-        (true, true) if p < q => Some(Antenna::Lower),
-        (true, _) => Some(Antenna::Upper),
-        (false, true) => Some(Antenna::Lower),
-        (false, false) => None,
+        (Some(p), Some(q)) if p < q => Some(Antenna::Lower),
+        (Some(_), _) => Some(Antenna::Upper),
+        (None, Some(_)) => Some(Antenna::Lower),
+        (None, None) => None,
     }
 }
 
@@ -70,9 +72,9 @@ fn is_taken(own: u32, m: &[u8]) -> bool
 }
 
 // The field of a message, its bytes without the last three; of fewer bytes than three, no byte.
+#[tactic(auto, using(message::proofs::Laws::field_is))]
 fn field(m: &[u8]) -> &[u8]
     ensures { (result.ref_ptr, result.now) ≡ field_of (m.entry.ref_ptr, m.now) }
 {
-    let n = m.len();
-    if n < 3 { &m[0..0] } else { &m[0..n - 3] }
+    &m[..m.len().saturating_sub(3)]
 }

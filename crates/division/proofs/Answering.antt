@@ -1,5 +1,5 @@
 -- What a caller knows of a result: a call within the rules is answered with its value.
-use mathlib.Core.Path.{◌≡◌, ◌∙◌}
+use mathlib.Core.Path.{◌≡◌}
 use mathlib.Core.Bool.{true}
 use mathlib.Core.List.{List}
 use Prim.Native.Nat.{ℕ, ◌<◌, ◌^◌}
@@ -12,7 +12,7 @@ use Rattle.message.proofs.Laws.{lt-word}
 use Rattle.division.specs.Division.{remainder, backward, parity, overlay, address_read}
 use Rattle.division.specs.Answers.{said, parity_answer, remainder_answer, address_answer, overlay_answer, backward_answer}
 use Rattle.outcome.specs.declared.Refusal.{Refusal}
-use Rattle.std.specs.Prelude.{Result, Ok, Err}
+use Rattle.std.specs.Prelude.{Result, Ok}
 
 -- ---- different results of the code are different answers of the paper
 

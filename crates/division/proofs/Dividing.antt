@@ -142,6 +142,15 @@ remainder_once v h =
     ∙ ap (λ (r : ℕ). reduce (r * 2 + v % 2)) (remainder_small (v / 2) (omega arith))
     ∙ ap reduce (div-add-mod' v 2)
 
+pub remainder_taken : (v : ℕ) → v < 2 ^ 25 → 2 ^ 24 ≤ v → bit_xor v 0x1FFF409 ≡ remainder v
+unfolding reduce
+remainder_taken v h l =
+    let one : v / 2 ^ 24 ≡ 1 = omega arith in
+    ap₂ (λ (t g : ℕ). bit_xor v (t * g)) (sym one) (sym generator_is) ∙ sym (remainder_once v h)
+
+-- what `reduced` needs
+pub ruleset one_reduction = (remainder_small, remainder_taken)
+
 pub quotient_small : (a : ℕ) → a < 2 ^ 24 → quotient a ≡ 0
 quotient_small =
     bin_ind (λ (n : ℕ). n < 2 ^ 24 → quotient n ≡ 0) (λ h. quotient-zero)

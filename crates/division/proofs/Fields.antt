@@ -6,19 +6,22 @@
 use mathlib.Core.Path.{◌≡◌, refl, sym, ap, ap₂, ◌∙◌, subst}
 use mathlib.Core.List.{List, [], ◌∷◌}
 use Prim.Native.Nat.{ℕ, zero, suc, ◌+◌, ◌-◌, ◌*◌, ◌/◌, ◌%◌, ◌^◌, ◌≤◌, ◌<◌}
-use native.Mathlib.Nat.{not-suc-le-zero, mod-lt, zero-lt-suc, zero-mul, mul-one, mod-one, add-zero, add_comm, suc-add, add_assoc, sub-zero, lt_of_le_of_lt, lt_of_lt_of_le, mul-le-mul_right, le_of_suc-le-suc, one-mul, zero-add, mod-eq_of_lt}
+use native.Mathlib.Nat.{not-suc-le-zero, mod-lt, zero-lt-suc, zero-mul, mul-one, mod-one, add-zero, add_comm, suc-add, add_assoc, sub-zero, le_of_suc-le-suc, one-mul, zero-add, mod-eq_of_lt}
 use native.Mathlib.Numerals.{add-one, one-add, unary_clauses}
 use native.Mathlib.Omega.{arith}
-use lib.ListN.{length, get_or, take, drop, length-drop, drop_of_length-le}
-use lib.Seq.{drop-cons}
-use lib.Dec.{lit≤}
+use lib.ListN.{length, get_or, take, drop, length-take, length-drop, drop_of_length-le}
+use lib.Seq.{drop-cons, get_or-take, get_or-drop}
 use lib.Arith.{le-zero}
 use lib.Pow.{pow_pos, pow-add, shr-shr, mod-pow-add, mod-mod-pow, field as cut, high, low}
-use lib.Bits.{bit_xor, xor_zero_r, xor_lt}
+use lib.Bits.{bit_and, bit_xor, xor_zero_r, xor_lt}
+use Rattle.std.proofs.lemmas.Nat.{and_mask}
+use Rattle.std.specs.Int.{w32, to_be_bytes}
 use Rattle.division.specs.Division.{remainder, shift_in, parity}
 use Rattle.message.specs.Message.{number, Bytes}
+use Rattle.division.specs.Tables.{IsByteTable, IsRowTable}
 use Rattle.division.specs.Ways.{register_from, register_way, table_step, table_way, rows_from, row_sum, ThreeWays}
 use Rattle.division.proofs.Xor.{xor_assoc}
+use Rattle.division.proofs.Dividing.{remainder-lt}
 use Rattle.division.proofs.Shifting.{shift_in_byte, shift_in-lt, parity-zero, parity-lt, parity_extend, parity-row}
 use Rattle.message.proofs.Laws.{field-length-le, number-next, number-split, number_lt, number-append_byte, bytes_drop}
 
@@ -117,6 +120,19 @@ pub table_end : (f : List ℕ) (i r : ℕ) → length f ≤ i → table_way r (d
 unfolding table_way
 table_end f i r l = ap (table_way r) (drop_of_length-le f l)
 
+-- the entry that the byte which leaves and the byte which enters pick; the byte which leaves is the second of four
+pub table_entry : (t : List ℕ) (r b at : ℕ) → IsByteTable t → r < 2 ^ 24 → b < 2 ^ 8 → at ≡ bit_xor (get_or (to_be_bytes w32 r) 1 0) b
+    → bit_xor (r % 65536 * 256) (get_or t at 0) ≡ table_step r b
+unfolding IsByteTable table_step
+table_entry t r b at h hr hb e =
+    let leaving : r / 65536 % 256 ≡ r / 65536 = omega arith in
+    let is : at ≡ bit_xor (r / 65536) b = e ∙ ap (λ (n : ℕ). bit_xor n b) leaving in
+    ap (bit_xor (r % 65536 * 256)) (ap (λ (n : ℕ). get_or t n 0) is ∙ h (bit_xor (r / 65536) b) (xor_lt 8 (r / 65536) b (omega arith) hb))
+
+pub table_entry-lt : (t : List ℕ) (r b at : ℕ) → IsByteTable t → r < 2 ^ 24 → b < 2 ^ 8 → at ≡ bit_xor (get_or (to_be_bytes w32 r) 1 0) b
+    → bit_xor (r % 65536 * 256) (get_or t at 0) < 2 ^ 24
+table_entry-lt t r b at h hr hb e = subst (λ (n : ℕ). n < 2 ^ 24) (sym (table_entry t r b at h hr hb e)) (table_step-lt r b)
+
 -- ---- the rows, a bit at a step
 
 rows_bit : (e left m row sum : ℕ) → 0 < left → row ≡ remainder (2 ^ (24 + e + (left - 1)))
@@ -128,7 +144,7 @@ rows_bit e (suc k) m row sum h w =
     (xor_assoc sum (m / 2 ^ k % 2 * row) (rows_from e k m)
     ∙ ap (λ (v : ℕ). bit_xor sum (bit_xor (m / 2 ^ k % 2 * v) (rows_from e k m))) (simp unary_clauses at w))
 
-pub rows_turn : (e taken m row sum : ℕ) → taken < 8 → row ≡ remainder (2 ^ (24 + e + (7 - taken)))
+rows_turn : (e taken m row sum : ℕ) → taken < 8 → row ≡ remainder (2 ^ (24 + e + (7 - taken)))
     → bit_xor (bit_xor sum (m / 2 ^ (7 - taken) % 2 * row)) (rows_from e (8 - (taken + 1)) m) ≡ bit_xor sum (rows_from e (8 - taken) m)
 rows_turn e taken m row sum h w =
     let p : 7 - taken ≡ 8 - taken - 1 = omega arith in
@@ -139,8 +155,27 @@ pub rows_end : (e left m sum : ℕ) → left ≤ 0 → bit_xor sum (rows_from e 
 unfolding rows_from
 rows_end e left m sum h = ap (λ (k : ℕ). bit_xor sum (rows_from e k m)) (le-zero h) ∙ xor_zero_r sum
 
-pub bit_times_lt : (t v : ℕ) → t < 2 → v < 2 ^ 24 → t * v < 2 ^ 32
-bit_times_lt t v ht hv = lt_of_le_of_lt (mul-le-mul_right v (le_of_suc-le-suc ht)) (subst (λ (n : ℕ). n < 2 ^ 32) (sym (one-mul v)) (lt_of_lt_of_le hv (lit≤ tt)))
+-- a row and the 32 copies of a bit, which negation makes
+bit_times : (t m v : ℕ) → t < 2 → v < 2 ^ 32 → m < 2 ^ 32 → (m + t) % 2 ^ 32 ≡ 0 → bit_and v m ≡ t * v
+bit_times zero m v ht hv hm e = let n : m ≡ 0 = omega arith in ap (bit_and v) n ∙ and_mask v 0 ∙ mod-one v ∙ sym (zero-mul v)
+bit_times (suc zero) m v ht hv hm e =
+    let n : m ≡ 2 ^ 32 - 1 = omega arith in ap (bit_and v) n ∙ and_mask v 32 ∙ mod-eq_of_lt hv ∙ sym (one-mul v)
+bit_times (suc (suc t)) m v ht hv hm e = absurd (not-suc-le-zero (le_of_suc-le-suc (le_of_suc-le-suc ht)))
+
+-- the same by the table, of which the byte's eight rows are taken
+pub row_turn : (rows : List ℕ) (at taken m mask sum : ℕ) → IsRowTable rows → at ≤ 80 → taken < length (take (at + 8 - at) (drop at rows))
+    → mask < 2 ^ 32 → (mask + m / 2 ^ (7 - taken) % 2) % 2 ^ 32 ≡ 0
+    → bit_xor (bit_xor sum (bit_and (get_or (take (at + 8 - at) (drop at rows)) taken 0) mask)) (rows_from (80 - at) (8 - (taken + 1)) m) ≡ bit_xor sum (rows_from (80 - at) (8 - taken) m)
+unfolding IsRowTable
+row_turn rows at taken m mask sum t ha hl hm e =
+    let row : ℕ = get_or (take (at + 8 - at) (drop at rows)) taken 0 in
+    let ht : taken < 8 = omega (arith, length-take (at + 8 - at) (drop at rows)) in
+    let is : row ≡ remainder (2 ^ (111 - (at + taken))) =
+    get_or-take (at + 8 - at) (drop at rows) taken 0 (omega arith) ∙ get_or-drop at rows taken 0 ∙ t (at + taken) (omega arith) in
+    let place : 111 - (at + taken) ≡ 24 + (80 - at) + (7 - taken) = omega arith in
+    let fits : row < 2 ^ 32 = rw is (omega (arith, remainder-lt (2 ^ (111 - (at + taken))))) in
+    ap (λ (n : ℕ). bit_xor (bit_xor sum n) (rows_from (80 - at) (8 - (taken + 1)) m)) (bit_times (m / 2 ^ (7 - taken) % 2) mask row (mod-lt _ (zero-lt-suc 1)) fits hm e)
+    ∙ rows_turn (80 - at) taken m row sum ht (is ∙ ap (λ (n : ℕ). remainder (2 ^ n)) place)
 
 -- ---- the rows, a byte at a step
 
@@ -218,5 +253,27 @@ three_ways f h = (
     from_nothing : (m : ℕ) → 0 * 2 ^ (8 * length f) + m ≡ m
     from_nothing m = ap (λ (n : ℕ). n + m) (zero-mul (2 ^ (8 * length f))) ∙ zero-add m
 
--- what the calls that go two of the three ways need
-pub ruleset ways = (three_ways, field-length-le)
+-- each of them
+pub by_bits : (f : List ℕ) → Bytes f → register_way (8 * length f) (number f) ≡ parity (number f)
+unfolding ThreeWays
+by_bits f h = (three_ways f h).0
+
+pub by_bytes : (f : List ℕ) → Bytes f → table_way 0 f ≡ parity (number f)
+unfolding ThreeWays
+by_bytes f h = (three_ways f h).1
+
+pub by_rows : (f : List ℕ) → Bytes f → row_sum (8 * length f) (number f) ≡ parity (number f)
+unfolding ThreeWays
+by_rows f h = (three_ways f h).2
+
+-- ---- what the functions need: the loops of each way, and the calls
+
+pub ruleset register_steps = (register-lt, register-start, register_byte, register_turn, register-end, shift_in-lt)
+
+pub ruleset one_entry = (table_entry, table_entry-lt)
+
+pub ruleset table_steps = (table_step-lt, table_byte, table_end)
+
+pub ruleset row_steps = (rows_start, rows_byte, row_turn, rows_end)
+
+pub ruleset ways = (by_bits, by_bytes, by_rows, field-length-le)

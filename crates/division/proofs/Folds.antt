@@ -1,7 +1,7 @@
 -- Folding leaves the remainder as it is: a product with p has the remainder of a product with x^k where p has that of x^k.
 use mathlib.Core.Path.{◌≡◌, refl, sym, ap, ap₂, ◌∙◌, subst}
 use Prim.Native.Nat.{ℕ, zero, suc, ◌+◌, ◌*◌, ◌/◌, ◌%◌, ◌^◌, ◌<◌, ◌≤◌}
-use native.Mathlib.Nat.{le_of_suc-le-suc, not-suc-le-zero, mod-lt, zero-lt-suc, zero-mul, one-mul, mul-one, mul_assoc, mul_comm, div-add-mod', div-lt_iff_lt-mul, lt_of_lt_of_le}
+use native.Mathlib.Nat.{le_of_suc-le-suc, not-suc-le-zero, mod-lt, mod-eq_of_lt, zero-lt-suc, zero-mul, one-mul, mul-one, mul_assoc, mul_comm, div-add-mod', div-lt_iff_lt-mul, lt_of_lt_of_le}
 use native.Mathlib.Omega.{arith}
 use lib.Arith.{bin_ind}
 use lib.Dec.{lit<}
@@ -9,7 +9,7 @@ use lib.Pow.{pow_pos, pow_mono, pow-add, split}
 use lib.Bits.{bit_xor, xor_comm, xor_lt, xor_shifted}
 use Rattle.division.specs.Polynomial.{product, downwards, polynomial}
 use Rattle.division.specs.Division.{remainder, divide, reduce, generator, generator_powers}
-use Rattle.division.specs.Folds.{folded, x25, x50}
+use Rattle.division.specs.Folds.{folded, x25, x50, powers}
 use Rattle.division.proofs.Xor.{xor_assoc, xor-middle, xor-shl}
 use Rattle.division.proofs.Dividing.{product-zero, product-step, remainder-xor}
 use Rattle.division.proofs.Degrees.{product-below}
@@ -103,11 +103,27 @@ shifts_are i j k a =
     seven : bit_xor (bit_xor a (a * 2 ^ i)) (a * 2 ^ (i + i)) ≡ product a (bit_xor p (2 ^ (i + i)))
     seven = ap₂ bit_xor three (sym (product_power (i + i) a)) ∙ sym (product-sum p (2 ^ (i + i)) a)
 
-pub times_x25 : (a : ℕ) → bit_xor (bit_xor (bit_xor a (a * 2)) (bit_xor a (a * 2) * 8)) (bit_xor (bit_xor a (a * 2)) (a * 4) * 1024) ≡ product a x25
-times_x25 a = shifts_are 1 3 10 a
+-- the same where a machine's shifts drop what is above 64 bits, and nothing is
+shifts_fit : (i j k a : ℕ) → a * 2 ^ i < 2 ^ 64 → a * 2 ^ (i + i) < 2 ^ 64 → bit_xor a (a * 2 ^ i) * 2 ^ j < 2 ^ 64 → bit_xor (bit_xor a (a * 2 ^ i)) (a * 2 ^ (i + i)) * 2 ^ k < 2 ^ 64
+    → (let p : ℕ = bit_xor 1 (2 ^ i) in
+    let three : ℕ = bit_xor a (a * 2 ^ i % 2 ^ 64) in
+    bit_xor (bit_xor three (three * 2 ^ j % 2 ^ 64)) (bit_xor three (a * 2 ^ (i + i) % 2 ^ 64) * 2 ^ k % 2 ^ 64)
+    ≡ product a (bit_xor (bit_xor p (p * 2 ^ j)) (bit_xor p (2 ^ (i + i)) * 2 ^ k)))
+shifts_fit i j k a h₁ h₂ h₃ h₄ = rw (mod-eq_of_lt h₁, mod-eq_of_lt h₂, mod-eq_of_lt h₃, mod-eq_of_lt h₄) (shifts_are i j k a)
 
-pub times_x50 : (a : ℕ) → bit_xor (bit_xor (bit_xor a (a * 4)) (bit_xor a (a * 4) * 64)) (bit_xor (bit_xor a (a * 4)) (a * 16) * 0x100000) ≡ product a x50
-times_x50 a = shifts_are 2 6 20 a
+pub times_powers : (k a : ℕ) → a < 2 ^ 40 → 1 ≤ k → k ≤ 2
+    → (let three : ℕ = bit_xor a (a * 2 ^ k % 2 ^ 64) in
+    bit_xor (bit_xor three (three * 2 ^ (3 * k) % 2 ^ 64)) (bit_xor three (a * 2 ^ (2 * k) % 2 ^ 64) * 2 ^ (10 * k) % 2 ^ 64) ≡ product a (powers k))
+times_powers zero a h l u = absurd (not-suc-le-zero l)
+times_powers (suc zero) a h l u =
+    let two : bit_xor a (a * 2) < 2 ^ 42 = xor_lt 42 a (a * 2) (omega arith) (omega arith) in
+    let three : bit_xor (bit_xor a (a * 2)) (a * 4) < 2 ^ 42 = xor_lt 42 (bit_xor a (a * 2)) (a * 4) two (omega arith) in
+    shifts_fit 1 3 10 a (omega arith) (omega arith) (omega arith) (omega arith)
+times_powers (suc (suc zero)) a h l u =
+    let two : bit_xor a (a * 4) < 2 ^ 44 = xor_lt 44 a (a * 4) (omega arith) (omega arith) in
+    let three : bit_xor (bit_xor a (a * 4)) (a * 16) < 2 ^ 44 = xor_lt 44 (bit_xor a (a * 4)) (a * 16) two (omega arith) in
+    shifts_fit 2 6 20 a (omega arith) (omega arith) (omega arith) (omega arith)
+times_powers (suc (suc (suc k))) a h l u = absurd (not-suc-le-zero (le_of_suc-le-suc (le_of_suc-le-suc u)))
 
 at_25 : remainder x25 ≡ remainder (2 ^ 25)
 unfolding remainder divide downwards reduce generator generator_powers polynomial
@@ -200,3 +216,15 @@ words_folded above middle below hm hb =
         ∙ ap (λ (n : ℕ). remainder (n * 2 ^ 25)) (sym parts)
         ∙ ap remainder (xor-shl (upper * 2 ^ 25) (c % 2 ^ 25) 25 ∙ ap (λ (n : ℕ). bit_xor n moved) (shl-shl upper 25 25))
         ∙ remainder-xor (upper * 2 ^ 50) moved
+
+-- the same by the two words
+pub words_are : (u l : ℕ) → l < 2 ^ 48
+    → (let c : ℕ = product (u / 0x8000000) x50 in
+    remainder (bit_xor (bit_xor (u % 4 * 0x1000000000000 + l) (c % 0x2000000 * 0x2000000)) (product (bit_xor (u / 4 % 0x2000000) (c / 0x2000000)) x50))
+    ≡ remainder (u * 2 ^ 48 + l))
+words_are u l h =
+    words_folded (u / 0x8000000) (u / 4 % 0x2000000) (u % 4 * 0x1000000000000 + l) (omega arith) (omega arith) ∙ ap remainder (omega arith)
+
+-- ---- what the function needs that folds a word
+
+pub ruleset word_steps = (folded_25, folded_50, first-fold-lt, second_fold-lt, third_fold-lt)

@@ -7,6 +7,7 @@ pub mod Reading
 pub mod Table
 pub mod Linear
 pub mod Folds
+pub mod Numbers
 pub mod Shifts
 pub mod Fields
 pub mod Answering

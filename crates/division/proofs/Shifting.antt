@@ -10,8 +10,8 @@ use lib.Pow.{pow-add}
 use lib.Bits.{bit_xor, xor_comm, xor_self, xor_zero_r, xor_lt, xor_mod, xor_shifted}
 use Rattle.division.specs.Polynomial.{polynomial}
 use Rattle.division.specs.Division.{generator, generator_powers, reduce, remainder, shift_in, backward, parity}
-use Rattle.division.proofs.Xor.{xor_assoc, xor_cancel_r, xor-zero→eq, xor-shl}
-use Rattle.division.proofs.Dividing.{generator_is, remainder_once, remainder-zero, remainder-lt, remainder_small, remainder-xor, remainder-double, multiple, product-digit, product-zero}
+use Rattle.division.proofs.Xor.{xor_assoc, xor_half, xor_cancel_r, xor-zero→eq, xor-shl}
+use Rattle.division.proofs.Dividing.{generator_is, remainder-zero, remainder-lt, remainder_small, remainder-xor, remainder-double, multiple, product-digit, product-zero}
 
 two_pos : zero < 2
 two_pos = zero-lt-suc 1
@@ -57,16 +57,12 @@ shift_in_more j k r b c h =
     before : ℕ
     before = bit_xor (r * 2 ^ j) (b * 2 ^ 24)
 
--- one bit, as a machine computes it
+-- one bit more
 pub dividend_lt : (r b : ℕ) → r < 2 ^ 24 → b < 2 → bit_xor (r * 2) (b * 2 ^ 24) < 2 ^ 25
 dividend_lt r b hr hb = xor_lt 25 (r * 2) (b * 2 ^ 24) (omega arith) (omega arith)
 
-pub shift_in_bit : (r b v : ℕ) → r < 2 ^ 24 → b < 2 → v ≡ bit_xor (r * 2) (b * 2 ^ 24) → bit_xor v (v / 2 ^ 24 * 0x1FFF409) ≡ shift_in 1 r b
-unfolding shift_in reduce
-shift_in_bit r b v hr hb e =
-    ap (λ (g : ℕ). bit_xor v (v / 2 ^ 24 * g)) (sym generator_is)
-    ∙ sym (remainder_once v (subst (λ (n : ℕ). n < 2 ^ 25) (sym e) (dividend_lt r b hr hb)))
-    ∙ ap remainder e
+-- what `shift_bit` needs
+pub ruleset one_shift = (dividend_lt, remainder-lt)
 
 -- R is what the register holds after the whole field, from 0
 pub parity-shift_in : (k m : ℕ) → parity m ≡ shift_in k 0 m
@@ -167,6 +163,20 @@ backward-lt r h =
 
 pub backward_unique : (w r : ℕ) → w < 2 ^ 24 → remainder (w * 2) ≡ r → w ≡ backward r
 backward_unique w r h e = sym (ap backward (sym e) ∙ backward-double w ∙ remainder_small w h)
+
+-- half of a sum is the sum of the halves
+by-halves : (r : ℕ) → bit_xor (r / 2) (r % 2 * 0x1FFF409 / 2) ≡ backward r
+unfolding backward
+by-halves r = sym (xor_half r (r % 2 * 0x1FFF409)) ∙ ap (λ (g : ℕ). bit_xor r (r % 2 * g) / 2) (sym generator_is)
+
+pub backward-odd : (r : ℕ) → r % 2 ≡ 1 → bit_xor (r / 2) 0xFFFA04 ≡ backward r
+backward-odd r e = ap (λ (b : ℕ). bit_xor (r / 2) (b * 0x1FFF409 / 2)) (sym e) ∙ by-halves r
+
+pub backward-even : (r : ℕ) → r % 2 ≡ 0 → r / 2 ≡ backward r
+backward-even r e = sym (xor_zero_r (r / 2)) ∙ ap (λ (b : ℕ). bit_xor (r / 2) (b * 0x1FFF409 / 2)) (sym e) ∙ by-halves r
+
+-- what `unshift_bit` needs
+pub ruleset halves = (backward-odd, backward-even)
 
 -- ---- no burst of 24 bits goes unnoticed, wherever it falls
 

@@ -3,13 +3,16 @@
 -- and with no sum where there is nothing to take away.
 use mathlib.Core.Path.{◌≡◌, refl, sym, ◌∙◌, ap, ap₂}
 use mathlib.Core.List.{List, [], ◌∷◌}
-use Prim.Native.Nat.{ℕ, zero, suc, ◌+◌, ◌*◌, ◌/◌, ◌%◌, ◌^◌, ◌<◌}
+use Prim.Native.Nat.{ℕ, zero, suc, ◌+◌, ◌-◌, ◌*◌, ◌/◌, ◌%◌, ◌^◌, ◌<◌}
 use native.Mathlib.Nat.{zero-mul, zero-add, add-zero, add-suc, suc-add, le_of_suc-le-suc, not-suc-le-zero}
 use lib.ListN.{get_or}
 use lib.Bits.{bit_xor, xor_zero_r}
 use Rattle.division.specs.Polynomial.{downwards}
 use Rattle.division.specs.Division.{generator, reduce, divide, remainder, parity}
-use Rattle.division.specs.Tables.{parities_from, byte_table, IsByteTable}
+use Rattle.division.specs.Tables.{parities_from, byte_table, IsByteTable, IsRowTable}
+use Rattle.division.specs.declared.byte_table.TheConstants.{TABLE}
+use Rattle.division.specs.declared.rows.TheConstants.{ROWS}
+use Rattle.outcome.proofs.Laws.{tabulate, tabulated}
 use Rattle.division.proofs.Dividing.{generator_is, remainder-double}
 
 -- `reduce` where q is the coefficient x^24 of v: most often there is nothing to add
@@ -71,3 +74,16 @@ entry_from (suc n) k (suc j) h = entry_from n (suc k) j (le_of_suc-le-suc h) ∙
 pub byte_table_rule : (t : List ℕ) → t ≡ byte_table → IsByteTable t
 unfolding IsByteTable byte_table
 byte_table_rule t e k h = ap (λ (l : List ℕ). get_or l k 0) e ∙ entry_from 256 0 k h ∙ ap parity (zero-add k)
+
+-- ---- the two tables of the code
+
+pub table_is : TABLE ≡ byte_table
+unfolding quick_from quick quick_down reduce_by downwards
+table_is = quick_table
+
+pub table_rule : IsByteTable TABLE
+table_rule = byte_table_rule TABLE table_is
+
+pub rows_rule : IsRowTable ROWS
+unfolding IsRowTable tabulate quick quick_down reduce_by downwards
+rows_rule j h = tabulated (λ (j : ℕ). quick (2 ^ (111 - j))) 88 j h ∙ quick_is (2 ^ (111 - j))

@@ -1,15 +1,14 @@
 // R by the table of 256 remainders, one for each byte value.
 ghost use Rattle.std.specs.Prelude.{◌<◌, ◌^◌, ◌≡◌};
-ghost use Rattle.division.specs.Division.{parity};
 ghost use Rattle.division.specs.Ways.{table_step, table_way};
-ghost use Rattle.message.specs.Message.{number};
 ghost use Rattle.division.specs.Tables.{byte_table, IsByteTable};
 ghost use Rattle.division.specs.Answers.{said, parity_answer};
 
+use crate::register::Register;
 use message::is_field_length;
 use outcome::{Refusal, refuse_unless};
 
-const TABLE: [u32; 256] = [
+static TABLE: [u32; 256] = [
     0x000000, 0xFFF409, 0x001C1B, 0xFFE812, 0x003836, 0xFFCC3F, 0x00242D, 0xFFD024, 0x00706C,
     0xFF8465, 0x006C77, 0xFF987E, 0x00485A, 0xFFBC53, 0x005441, 0xFFA048, 0x00E0D8, 0xFF14D1,
     0x00FCC3, 0xFF08CA, 0x00D8EE, 0xFF2CE7, 0x00C4F5, 0xFF30FC, 0x0090B4, 0xFF64BD, 0x008CAF,
@@ -42,6 +41,7 @@ const TABLE: [u32; 256] = [
 ];
 
 // The table itself, for a caller that divides many messages: entry k is R of the byte k.
+#[tactic(auto, using(crate::proofs::Table::table_is))]
 pub fn byte_remainders() -> [u32; 256]
     ensures { result ≡ byte_table }
 {
@@ -49,43 +49,34 @@ pub fn byte_remainders() -> [u32; 256]
 }
 
 // The register after the eight bits of a byte: the byte that leaves it and the byte that enters pick one entry.
-fn shift_byte_by_table(table: &[u32; 256], r: u32, byte: u8) -> u32
-    requires byte_table { IsByteTable table.now }
-    requires r_bound { r < 2 ^ 24 }
-    ensures { result ≡ table_step r byte }
+#[tactic(auto, using(crate::proofs::Fields::one_entry))]
+fn shift_byte_by_table(table: &[u32; 256], r: Register, byte: u8) -> Register
+    requires { IsByteTable table.now }
+    ensures { result.word ≡ table_step r.word byte }
 {
-    let leaving = r / 65536;
-    let staying = r % 65536 * 256;
-    // Below 256: Rust has no From for a u32 as an index.
-    let at = (leaving ^ u32::from(byte)) as usize;
-    staying ^ table[at]
+    let [_, leaving, ..] = r.word.to_be_bytes();
+    let staying = r.word % 65536 * 256;
+    Register::new(staying ^ table[usize::from(leaving ^ byte)])
 }
 
 // The register after a field of any length, from 0.
+#[tactic(auto, using(crate::proofs::Fields::table_steps))]
 fn by_byte_table(table: &[u32; 256], field: &[u8]) -> u32
     requires { IsByteTable table.now }
     ensures { result ≡ table_way 0 field.now }
 {
-    let mut state: u32 = 0;
+    let mut state = Register::new(0);
     for &byte in field {
         state = shift_byte_by_table(table, state, byte);
     }
-    state
-}
-
-// R of a field of any length, with the table at hand: one copy of it for the whole field.
-pub(crate) fn field_parity(field: &[u8]) -> u32
-    ensures { result ≡ parity (number field.now) }
-{
-    let table = byte_remainders();
-    by_byte_table(&table, field)
+    state.word
 }
 
 // R of a field, byte by byte.
-#[tactic(auto, using(outcome::proofs::Laws::rows), unfolding(crate::specs::Answers::parity_answer))]
+#[tactic(auto, using(outcome::proofs::Laws::rows, crate::proofs::Fields::ways, crate::proofs::Table::table_rule), unfolding(crate::specs::Answers::parity_answer))]
 pub fn parity_by_bytes(field: &[u8]) -> Result<u32, Refusal>
     ensures { said result ≡ parity_answer field.now }
 {
     refuse_unless(is_field_length(field.len()), Refusal::WrongLength)?;
-    Ok(field_parity(field))
+    Ok(by_byte_table(&TABLE, field))
 }

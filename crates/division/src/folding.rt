@@ -7,74 +7,52 @@ ghost use Rattle.std.specs.Prelude.{◌<◌, ◌+◌, ◌*◌, ◌^◌, ◌≡�
 ghost use Rattle.message.specs.Message.{number, is_field_length};
 ghost use Rattle.division.specs.Division.{remainder, parity};
 ghost use Rattle.division.specs.Polynomial.{product};
-ghost use Rattle.division.specs.Folds.{folded, x25, x50};
+ghost use Rattle.division.specs.Folds.{folded, powers, IsStep};
 ghost use Rattle.division.specs.Answers.{said, parity_answer};
 
-use crate::GENERATOR;
+use crate::register::reduced;
 use crate::words::number_of;
 use message::is_field_length;
 use outcome::{Refusal, refuse_unless};
 
-// Times the seven powers that x^25 stands for.
-fn by_x25(a: u64) -> u64
-    requires { a < 2 ^ 40 }
-    ensures { result ≡ product a x25 }
+// Times the seven powers that x^25 stands for, and at K = 2 times their squares, which x^50 stands for.
+#[tactic(auto, using(crate::proofs::Folds::times_powers))]
+fn by_powers<const K: u32>(a: u64) -> u64
+    requires a_bound { a < 2 ^ 40 }
+    requires k_bound { IsStep K }
+    ensures { result ≡ product a (powers K) }
 {
-    let two = a ^ (a * 2);
-    let three = two ^ (a * 4);
-    let lower = two ^ (two * 8);
-    lower ^ (three * 1024)
+    let two = a ^ (a << K);
+    let three = two ^ (a << (2 * K));
+    let lower = two ^ (two << (3 * K));
+    lower ^ (three << (10 * K))
 }
 
-// Times the seven powers that x^50 stands for. It stays apart from by_x25, as fold_50 from fold_25: each is a list of powers, which one
-// function for both would have to compute.
-fn by_x50(a: u64) -> u64
-    requires { a < 2 ^ 40 }
-    ensures { result ≡ product a x50 }
+// What v has above x^(25·K) is folded onto what it has below.
+#[tactic(auto, unfolding(crate::specs::Folds::folded))]
+fn fold<const K: u32>(v: u64) -> u64
+    requires { IsStep K }
+    ensures { result ≡ folded (25 * K) (powers K) v }
 {
-    let two = a ^ (a * 4);
-    let three = two ^ (a * 16);
-    let lower = two ^ (two * 64);
-    lower ^ (three * 0x100000)
-}
-
-fn fold_25(v: u64) -> u64
-    ensures { result ≡ folded 25 x25 v }
-{
-    let above = v / 0x2000000;
-    (v % 0x2000000) ^ by_x25(above)
-}
-
-fn fold_50(v: u64) -> u64
-    ensures { result ≡ folded 50 x50 v }
-{
-    let above = v / 0x4000000000000;
-    (v % 0x4000000000000) ^ by_x50(above)
-}
-
-// One step of division, where one is enough.
-fn reduced(v: u64) -> u32
-    requires { v < 2 ^ 25 }
-    ensures { result ≡ remainder v }
-{
-    // Below 2^25: Rust has no From to a narrower type.
-    let dividend = v as u32;
-    let taken = dividend / 0x1000000 * GENERATOR;
-    dividend ^ taken
+    let above = v >> (25 * K);
+    (v % (1 << (25 * K))) ^ by_powers::<K>(above)
 }
 
 // The remainder of 64 coefficients.
+#[tactic(auto, using(crate::proofs::Folds::word_steps))]
 pub(crate) fn remainder_of_word(v: u64) -> u32
     ensures { result ≡ remainder v }
 {
-    let first = fold_50(v);
-    let second = fold_25(first);
-    let third = fold_25(second);
-    reduced(third)
+    let first = fold::<2>(v);
+    let second = fold::<1>(first);
+    let third = fold::<1>(second);
+    // Below 2^25: Rust has no From to a narrower type, and a try_from would only test it again.
+    reduced(third as u32)
 }
 
 // The remainder of 112 coefficients, the lower 48 apart. Those above x^75 are folded to x^25 and above, and of these, those above
 // x^50 are folded together with what stood there.
+#[tactic(auto, using(crate::proofs::Folds::words_are))]
 pub(crate) fn remainder_of_words(upper: u64, lower: u64) -> u32
     requires { lower < 2 ^ 48 }
     ensures { result ≡ remainder (upper * 2 ^ 48 + lower) }
@@ -82,13 +60,14 @@ pub(crate) fn remainder_of_words(upper: u64, lower: u64) -> u32
     let above_75 = upper / 0x8000000;
     let above_50 = upper / 4 % 0x2000000;
     let below_50 = upper % 4 * 0x1000000000000 + lower;
-    let above_25 = by_x50(above_75);
+    let above_25 = by_powers::<2>(above_75);
     let joined = above_50 ^ (above_25 / 0x2000000);
     let moved = above_25 % 0x2000000 * 0x2000000;
-    remainder_of_word((below_50 ^ moved) ^ by_x50(joined))
+    remainder_of_word((below_50 ^ moved) ^ by_powers::<2>(joined))
 }
 
 // R of a field of 4 bytes, and of one of 11.
+#[tactic(auto, using(crate::proofs::Numbers::parts), unfolding(crate::specs::Division::parity))]
 fn short_parity(field: &[u8]) -> u32
     requires { length field.now ≡ 4 }
     ensures { result ≡ parity (number field.now) }
@@ -96,14 +75,18 @@ fn short_parity(field: &[u8]) -> u32
     remainder_of_word(number_of(field) * 0x1000000)
 }
 
+// Beside long_remainder: of another length, and with the zeros of the parity field after it.
+#[tactic(auto, using(crate::proofs::Numbers::parts), unfolding(crate::specs::Division::parity))]
 fn long_parity(field: &[u8]) -> u32
     requires { length field.now ≡ 11 }
     ensures { result ≡ parity (number field.now) }
 {
-    let (upper, last) = field.split_at(8);
+    let upper = &field[..8];
+    let last = &field[8..11];
     remainder_of_words(number_of(upper), number_of(last) * 0x1000000)
 }
 
+#[tactic(auto, using(message::proofs::Laws::long_field))]
 fn folded_parity(field: &[u8]) -> u32
     requires { is_field_length (length field.now) ≡ true }
     ensures { result ≡ parity (number field.now) }
@@ -116,6 +99,7 @@ fn folded_parity(field: &[u8]) -> u32
 }
 
 // R of a field, by folding: the fastest way for one field. The second promise follows from the first: with it a caller unwraps.
+// Two lines, as parity_by_register, which says why they are written out.
 #[tactic(auto, using(outcome::proofs::Laws::rows), unfolding(crate::specs::Answers::parity_answer))]
 pub fn parity_by_folding(field: &[u8]) -> Result<u32, Refusal>
     ensures value { said result ≡ parity_answer field.now }

@@ -2,9 +2,7 @@
 // message, the address read from it, the address overlay, the register run backwards, and the byte table itself.
 //
 // Every public function takes any input and answers a word of 24 bits or the refusal (the byte table, which nothing can refuse,
-// is a value alone). Its contract says which, by a definition of specs/Answers.antt. Private workers take a table as a lent
-// array, so that a call copies it at most once, and a register as a u32 below 2^24: a type for it would be made and opened at each
-// shift of the loops.
+// is a value alone). Its contract says which, by a definition of specs/Answers.antt. Private workers are lent a static table.
 #![tactic(auto)]
 
 mod byte_table;

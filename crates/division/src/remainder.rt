@@ -9,7 +9,8 @@ use crate::words::number_of;
 use message::is_message_length;
 use outcome::{Refusal, refuse_unless};
 
-// The remainder of a message. The second promise follows from the first: with it a caller unwraps.
+// The remainder of a message. The second promise follows from the first: with it a caller unwraps. Two lines, as parity_by_register,
+// which says why they are written out; these are for a message and its lengths.
 #[tactic(auto, using(outcome::proofs::Laws::rows), unfolding(crate::specs::Answers::remainder_answer))]
 pub fn message_remainder(m: &[u8]) -> Result<u32, Refusal>
     ensures value { said result ≡ remainder_answer m.now }
@@ -30,6 +31,7 @@ pub fn address_read(m: &[u8]) -> Result<u32, Refusal>
 }
 
 // By folding: a short message is one word, a long one two.
+#[tactic(auto, using(message::proofs::Laws::long_message))]
 fn remainder_of(m: &[u8]) -> u32
     requires { is_message_length (length m.now) ≡ true }
     ensures { result ≡ remainder (number m.now) }
@@ -41,16 +43,19 @@ fn remainder_of(m: &[u8]) -> u32
     }
 }
 
+#[tactic(auto, using(crate::proofs::Numbers::parts))]
 fn long_remainder(m: &[u8]) -> u32
     requires { length m.now ≡ 14 }
     ensures { result ≡ remainder (number m.now) }
 {
-    let (upper, lower) = m.split_at(8);
+    let upper = &m[..8];
+    let lower = &m[8..14];
     remainder_of_words(number_of(upper), number_of(lower))
 }
 
 // The quotient of x^24·r: that of x^48 is x^24 + x^23 + x^11 + x^8 + x^3 + x + 1, so each coefficient of r gives its part by
 // shifts.
+#[tactic(auto, using(crate::proofs::Shifts::address_by_shifts), unfolding(crate::proofs::Shifts::address_shifts))]
 fn address_of(r: u32) -> u32
     requires { r < 2 ^ 24 }
     ensures { result ≡ address_read r }

@@ -10,7 +10,7 @@ use message::is_field_length;
 use outcome::{Refusal, refuse_unless};
 
 // The row for bit 73 is the one of ATC-40's errata sheet.
-const ROWS: [u32; 88] = [
+static ROWS: [u32; 88] = [
     0x3935EA, 0x1C9AF5, 0xF1B77E, 0x78DBBF, 0xC397DB, 0x9E31E9, 0xB0E2F0, 0x587178, 0x2C38BC,
     0x161C5E, 0x0B0E2F, 0xFA7D13, 0x82C48D, 0xBE9842, 0x5F4C21, 0xD05C14, 0x682E0A, 0x341705,
     0xE5F186, 0x72F8C3, 0xC68665, 0x9CB936, 0x4E5C9B, 0xD8D449, 0x939020, 0x49C810, 0x24E408,
@@ -24,6 +24,7 @@ const ROWS: [u32; 88] = [
 ];
 
 // The sum of the rows for the ones of a byte, whose first bit has the row `at`.
+#[tactic(auto, using(crate::proofs::Fields::row_steps))]
 fn rows_of_byte(rows: &[u32; 88], at: usize, byte: u8) -> u32
     requires row_table { IsRowTable rows.now }
     requires at_bound { at ≤ 80 }
@@ -31,14 +32,16 @@ fn rows_of_byte(rows: &[u32; 88], at: usize, byte: u8) -> u32
 {
     let bits = u32::from(byte);
     let mut sum: u32 = 0;
-    for taken in 0..8 {
+    // A bit negated is a mask of ones or of zeros: a product with it, or a choice by it, is compiled to jumps.
+    for (taken, &row) in rows[at..at + 8].iter().enumerate() {
         let bit = (bits >> (7 - taken)) % 2;
-        sum ^= bit * rows[at + taken];
+        sum ^= row & bit.wrapping_neg();
     }
     sum
 }
 
 // The sum of the rows for the ones of a field of at most 88 bits, which uses the last rows.
+#[tactic(auto, using(crate::proofs::Fields::row_steps), unfolding(crate::specs::Ways::row_sum))]
 fn by_rows(rows: &[u32; 88], field: &[u8]) -> u32
     requires row_table { IsRowTable rows.now }
     requires field_len_bound { length field.now ≤ 11 }
@@ -47,26 +50,18 @@ fn by_rows(rows: &[u32; 88], field: &[u8]) -> u32
     let first = 88 - 8 * field.len();
     let mut sum: u32 = 0;
     for (i, &byte) in field.iter().enumerate() {
+        // The place, and no chunk of eight rows: by it the clause of rows_of_byte says which remainders they are.
         let at = first + 8 * i;
         sum ^= rows_of_byte(rows, at, byte);
     }
     sum
 }
 
-// The same, with the table at hand: one copy of it for the whole field.
-fn field_parity_by_rows(field: &[u8]) -> u32
-    requires { length field.now ≤ 11 }
-    ensures { result ≡ row_sum (8 * length field.now) (number field.now) }
-{
-    let rows = ROWS;
-    by_rows(&rows, field)
-}
-
-// R of a field, by rows added for its ones.
-#[tactic(auto, using(outcome::proofs::Laws::rows), unfolding(crate::specs::Answers::parity_answer))]
+// R of a field, by rows added for its ones. Two lines, as parity_by_register, which says why they are written out.
+#[tactic(auto, using(outcome::proofs::Laws::rows, crate::proofs::Fields::ways, crate::proofs::Table::rows_rule), unfolding(crate::specs::Answers::parity_answer))]
 pub fn parity_by_rows(field: &[u8]) -> Result<u32, Refusal>
     ensures { said result ≡ parity_answer field.now }
 {
     refuse_unless(is_field_length(field.len()), Refusal::WrongLength)?;
-    Ok(field_parity_by_rows(field))
+    Ok(by_rows(&ROWS, field))
 }

@@ -1,19 +1,22 @@
 -- How a seal's definitions split: the outcome by its three tests, and the parity field's bytes.
 use mathlib.Core.Path.{◌≡◌, refl, sym, ap, ap₂, ◌∙◌}
 use mathlib.Core.Bool.{true}
-use mathlib.Core.List.{List, [], ◌∷◌, ◌++◌, append-nil}
+use mathlib.Core.List.{List, [], ◌++◌, append-nil}
 use Prim.Native.Nat.{ℕ, ◌-◌, ◌^◌, ◌<◌, ◌≤◌}
+use native.Mathlib.Nat.{sub-le}
 use native.Mathlib.Omega.{arith}
-use lib.ListN.{length, set, take}
-use lib.Seq.{drop-length}
+use lib.Bits.{bit_xor, xor_lt}
+use lib.ListN.{length, take}
+use lib.Seq.{drop-length, length-take-le}
 use borrow.Rule.Slice.PartMut.{put_mid, Post-is}
-use Rattle.message.specs.Message.{is_message_length, first_bit_agrees, is_word}
+use Rattle.message.specs.Message.{is_message_length, is_field_length, first_bit_agrees, is_word}
 use Rattle.outcome.specs.Outcomes.{done}
 use Rattle.outcome.specs.Outcomes.Outcome.{answer}
 use Rattle.outcome.specs.Refusals.{wrong_length, word_too_large, first_bit_contradicts}
 use Rattle.outcome.proofs.Laws.{passed, unless-answer, admission_injective}
-use Rattle.message.proofs.Laws.{word_lt, field_is}
-use Rattle.division.proofs.Laws.{overlay-lt}
+use Rattle.message.proofs.Laws.{word_lt, message-length_ge, field_is_field, field_is}
+use Rattle.division.specs.Division.{parity}
+use Rattle.division.proofs.Laws.{overlay-lt, parity-lt}
 use Rattle.encoder.specs.Seals.{word_bytes, with_parity, seal_outcome, said}
 use Rattle.std.specs.Prelude.{Result}
 use Rattle.outcome.specs.declared.Refusal.{Refusal}
@@ -55,19 +58,26 @@ answered-done m w n vs e =
 
 -- ---- the parity field
 
-pub three_set : (p : List ℕ) (x y z : ℕ) → length p ≡ 3 → set (set (set p 0 x) 1 y) 2 z ≡ x ∷ y ∷ z ∷ []
-three_set [] x y z h = absurd (omega arith)
-three_set (a ∷ []) x y z h = absurd (omega arith)
-three_set (a ∷ b ∷ []) x y z h = absurd (omega arith)
-three_set (a ∷ b ∷ c ∷ []) x y z h = refl
-three_set (a ∷ b ∷ c ∷ d ∷ p) x y z h = absurd (omega arith)
+-- the field before it has a field's length
+pub field_before : (m : List ℕ) → is_message_length (length m) ≡ true → is_field_length (length (take (length m - 3) m)) ≡ true
+field_before m h =
+    let ge = message-length_ge (length m) h in
+    let l = length-take-le (length m - 3) m (sub-le (length m) 3) in
+    field_is_field (length m) (length (take (length m - 3) m)) h (omega arith)
+
+-- R and a word are a word
+pub word_in_parity : (n w : ℕ) → w < 2 ^ 24 → bit_xor (parity n) w < 2 ^ 24
+word_in_parity n w h = xor_lt 24 (parity n) w (parity-lt n) h
 
 -- the last three bytes replaced, as they come back from the writer
-pub written : (m ys : List ℕ) (p : ℕ) → 3 ≤ length m → ys ≡ word_bytes p → put_mid (length m - 3) (length m - (length m - 3)) m ys ≡ with_parity m p
+pub written : (m : List ℕ) (p : ℕ) → 3 ≤ length m → with_parity m p ≡ put_mid (length m - 3) (length m - (length m - 3)) m (word_bytes p)
 unfolding with_parity
-written m ys p h e =
-    ap (λ (t : List ℕ). take (length m - 3) m ++ (ys ++ t)) (Post-is (length m - 3) (length m) m (omega arith) ∙ drop-length m)
-    ∙ ap₂ (λ (f t : List ℕ). f ++ t) (sym (field_is m)) (append-nil ys ∙ e)
+written m p h =
+    ap₂ (λ (f t : List ℕ). f ++ t) (field_is m) (sym (append-nil (word_bytes p)))
+    ∙ ap (λ (t : List ℕ). take (length m - 3) m ++ (word_bytes p ++ t)) (sym (Post-is (length m - 3) (length m) m (omega arith) ∙ drop-length m))
+
+-- what the writing of the parity field needs
+pub ruleset sealing = (message-length_ge, field_before, word_in_parity, written, field_is)
 
 -- ---- different results of the code are different answers of the paper
 

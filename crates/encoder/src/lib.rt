@@ -14,7 +14,8 @@ ghost use Rattle.encoder.specs.Seals.{said, word_bytes, with_parity, seal_outcom
 
 use outcome::{Refusal, refuse_unless};
 
-// Writes the parity field of a reply for the word: R + word.
+// Writes the parity field of a reply for the word: R + word. Message and word stay two parameters, here and below: the one is lent to be
+// written, and the other may be any number.
 #[tactic(auto, using(outcome::proofs::Laws::writing, crate::proofs::Sealing::accepting), unfolding(crate::specs::Seals::reply_after, crate::specs::Seals::reply_seal, crate::specs::Seals::reply_parity))]
 pub fn seal_reply(m: &mut [u8], word: u32) -> Result<(), Refusal>
     ensures result_value { said result ≡ seal_outcome m.old word }
@@ -47,6 +48,7 @@ fn check(m: &[u8], word: u32) -> Result<(), Refusal>
 }
 
 // R + word in the parity field.
+#[tactic(auto, using(crate::proofs::Sealing::sealing))]
 fn write_parity(m: &mut [u8], word: u32)
     requires m_value { is_message_length (length m.old) ≡ true }
     requires word_bound { word < 2 ^ 24 }
@@ -58,16 +60,11 @@ fn write_parity(m: &mut [u8], word: u32)
 }
 
 // The writer of the parity field: it is lent the last three bytes of the message.
+#[tactic(auto, unfolding(crate::specs::Seals::word_bytes))]
 fn write_word(parity_field: &mut [u8], word: u32)
     requires parity_field_len { length parity_field.old ≡ 3 }
     requires word_bound { word < 2 ^ 24 }
     ensures { parity_field.new ≡ word_bytes word }
 {
-    // Bytes each: Rust has no From to a narrower type.
-    let first = word / 65536;
-    let second = word / 256 % 256;
-    let third = word % 256;
-    parity_field[0] = first as u8;
-    parity_field[1] = second as u8;
-    parity_field[2] = third as u8;
+    parity_field.copy_from_slice(&word.to_be_bytes()[1..]);
 }

@@ -1,12 +1,11 @@
 -- The lengths of messages and fields, and words of 24 bits: what it means that a test of them is passed.
 use mathlib.Core.Path.{◌≡◌, ap}
-use mathlib.Core.Bool.{true, ◌||◌}
-use mathlib.Core.Logic.{◌⊎◌, inl, inr}
+use mathlib.Core.Bool.{true}
+use mathlib.Core.Logic.{◌⊎◌}
 use Prim.Native.Nat.{ℕ, ◌+◌, ◌<◌, ◌≤◌, ◌^◌}
 use native.Mathlib.Omega.{arith}
-use lib.Dec.{eqb}
-use borrow.Author.Tests.{leb-true, eqb-true, le-leb}
-use Rattle.outcome.proofs.Laws.{or_cases}
+use Rattle.std.proofs.lemmas.Bool.Decides.{nat_tests}
+use borrow.Author.Tests.{leb-true, le-leb}
 use Rattle.message.specs.Message.{is_message_length, is_field_length, is_word}
 
 pub word_lt : (w : ℕ) → is_word w ≡ true → w < 2 ^ 24
@@ -22,26 +21,11 @@ pub ruleset words = (word_lt, lt-word)
 
 pub message-length : (n : ℕ) → is_message_length n ≡ true → (n ≡ 7) ⊎ (n ≡ 14)
 unfolding is_message_length
-message-length n e = cases (or_cases (eqb n 7) (eqb n 14) e)
-  where
-    cases : (eqb n 7 ≡ true) ⊎ (eqb n 14 ≡ true) → (n ≡ 7) ⊎ (n ≡ 14)
-    cases (inl p) = inl (eqb-true n 7 p)
-    cases (inr p) = inr (eqb-true n 14 p)
-
-field_sizes : (n : ℕ) → is_field_length n ≡ true → (n ≡ 4) ⊎ (n ≡ 11)
-unfolding is_field_length
-field_sizes n e = cases (or_cases (eqb n 4) (eqb n 11) e)
-  where
-    cases : (eqb n 4 ≡ true) ⊎ (eqb n 11 ≡ true) → (n ≡ 4) ⊎ (n ≡ 11)
-    cases (inl p) = inl (eqb-true n 4 p)
-    cases (inr p) = inr (eqb-true n 11 p)
+message-length n e = grind (arith, nat_tests)
 
 pub message-length_ge : (n : ℕ) → is_message_length n ≡ true → 3 ≤ n
-message-length_ge n e = cases (message-length n e)
-  where
-    cases : (n ≡ 7) ⊎ (n ≡ 14) → 3 ≤ n
-    cases (inl p) = omega arith
-    cases (inr p) = omega arith
+unfolding is_message_length
+message-length_ge n e = grind (arith, nat_tests)
 
 pub long_length : (n : ℕ) → n ≡ 14 → is_message_length n ≡ true
 unfolding is_message_length
@@ -49,32 +33,18 @@ long_length n e = ap is_message_length e
 
 -- one that is not short is long
 pub long_message : (n : ℕ) → is_message_length n ≡ true → (n ≡ 7 → ⊥) → n ≡ 14
-long_message n e other = cases (message-length n e)
-  where
-    cases : (n ≡ 7) ⊎ (n ≡ 14) → n ≡ 14
-    cases (inl p) = absurd (other p)
-    cases (inr p) = p
+unfolding is_message_length
+long_message n e other = grind (arith, nat_tests)
 
 pub long_field : (n : ℕ) → is_field_length n ≡ true → (n ≡ 4 → ⊥) → n ≡ 11
-long_field n e other = cases (field_sizes n e)
-  where
-    cases : (n ≡ 4) ⊎ (n ≡ 11) → n ≡ 11
-    cases (inl p) = absurd (other p)
-    cases (inr p) = p
+unfolding is_field_length
+long_field n e other = grind (arith, nat_tests)
 
 pub field-length-le : (n : ℕ) → is_field_length n ≡ true → n ≤ 11
-field-length-le n e = cases (field_sizes n e)
-  where
-    cases : (n ≡ 4) ⊎ (n ≡ 11) → n ≤ 11
-    cases (inl p) = omega arith
-    cases (inr p) = omega arith
-
--- ---- the field of a message has a field's length
-
-pub field_is_field : (n k : ℕ) → is_message_length n ≡ true → k + 3 ≡ n → is_field_length k ≡ true
 unfolding is_field_length
-field_is_field n k e s = cases (message-length n e)
-  where
-    cases : (n ≡ 7) ⊎ (n ≡ 14) → (eqb k 4 || eqb k 11) ≡ true
-    cases (inl p) = let h : k ≡ 4 = omega arith in ap (λ (x : ℕ). eqb x 4 || eqb x 11) h
-    cases (inr p) = let h : k ≡ 11 = omega arith in ap (λ (x : ℕ). eqb x 4 || eqb x 11) h
+field-length-le n e = grind (arith, nat_tests)
+
+-- the field of a message has a field's length
+pub field_is_field : (n k : ℕ) → is_message_length n ≡ true → k + 3 ≡ n → is_field_length k ≡ true
+unfolding is_message_length is_field_length
+field_is_field n k e s = grind (arith, nat_tests)

@@ -20,7 +20,7 @@ ghost use Rattle.mode_s.specs.Packing.{parts, packed};
 ghost use Rattle.mode_s.specs.Packing.Source.{seal, transponder, sensor, recording};
 
 use outcome::Refusal;
-use sensor::{Correction, Mark, Verdict};
+use sensor::{Correction, Verdict};
 use transponder::Reception;
 
 // The reply seal.
@@ -31,7 +31,7 @@ pub fn mode_s_seal_reply(message: &mut [u8], word: u32) -> u64
     packed_seal(encoder::seal_reply(message, word))
 }
 
-// The interrogation seal.
+// The interrogation seal. C calls the two seals by two names.
 pub fn mode_s_seal_interrogation(message: &mut [u8], address: u32) -> u64
     ensures value { result ≡ packed seal (seal_outcome message.old address) }
     ensures message_after { message.new ≡ interrogation_after message.old address }
@@ -106,7 +106,8 @@ fn packed_verdict(s: Result<Verdict, Refusal>) -> u64
     }
 }
 
-// Apart from packed_seal by its number, which is all that C has to tell the two by.
+// Apart from packed_seal: the definition goes by whose answer it is, and one function for both would take a number in its place and
+// need a definition of its own.
 #[tactic(auto, unfolding(crate::specs::Packing::packed))]
 fn packed_divided(s: Result<(), Refusal>) -> u64
     ensures { result ≡ packed recording (said_divided s) }
@@ -120,20 +121,11 @@ fn packed_divided(s: Result<(), Refusal>) -> u64
 fn packed_correction(k: Correction) -> u64
     ensures { result ≡ parts 10 0 (mark_of k.mark) k.window k.bits 0 }
 {
-    parts(10, 0, mark_number(k.mark), k.window, k.bits, 0)
+    parts(10, 0, u32::from(k.mark), k.window, k.bits, 0)
 }
 
-// C reads a number.
-fn mark_number(mark: Mark) -> u32
-    ensures { result ≡ mark_of mark }
-{
-    match mark {
-        Mark::Sole => 1,
-        Mark::Several => 2,
-    }
-}
-
-// The six parts, each in its own bits.
+// The six parts, each in its own bits. They come in the order of the definition, by which each call is proved, so that no two can be
+// exchanged; a struct of them would name each part at each answer.
 #[tactic(auto, unfolding(crate::specs::Packing::parts))]
 fn parts(number: u32, refused: u32, mark: u32, window: u32, bits: u32, address: u32) -> u64
     ensures { result ≡ parts number refused mark window bits address }

@@ -20,7 +20,7 @@ pub extern "C" fn mode_s_seal_reply(message: &mut [u8], word: u32) -> u64
     mode_s::mode_s_seal_reply(message, word)
 }
 
-// The interrogation seal.
+// The interrogation seal. C calls the two seals by two names.
 #[unsafe(no_mangle)]
 pub extern "C" fn mode_s_seal_interrogation(message: &mut [u8], address: u32) -> u64
     ensures value { result ≡ packed seal (seal_outcome message.old address) }

@@ -1,6 +1,6 @@
 -- The eleven tables, and the sums that are taken from them. Only private functions cite this file: that the sum is the remainder
 -- of a reply is `sum-is-remainder` (proofs/Summing.antt).
-use Rattle.std.specs.Prelude.{ℕ, ◌+◌, ◌*◌, ◌-◌, ◌/◌, ◌%◌, ◌^◌, ◌<◌, ◌≡◌, List, get_or}
+use Rattle.std.specs.Prelude.{ℕ, ◌+◌, ◌*◌, ◌-◌, ◌/◌, ◌%◌, ◌^◌, ◌<◌, ◌≡◌, List, [], ◌∷◌, get_or}
 use Rattle.std.specs.Int.Bits.{bit_xor}
 use Rattle.division.specs.Division.{parity}
 use Rattle.remainders.specs.declared.replies.Words.{Words}
@@ -17,7 +17,11 @@ AreTables t = (i : ℕ) → i < 2816 → get_or t i 0 ≡ entry_at (10 - i / 256
 unfoldable pub HasLast : List ℕ → Type 0
 HasLast t = (k : ℕ) → k < 256 → get_or t (k + 2560) 0 ≡ entry_at 0 k
 
--- Four bytes from a place on as a word, and what tables have for the bytes of a word.
+-- Four bytes from a place on.
+abbrev pub four_at : List ℕ → ℕ → List ℕ
+four_at s a = get_or s a 0 ∷ get_or s (a + 1) 0 ∷ get_or s (a + 2) 0 ∷ get_or s (a + 3) 0 ∷ []
+
+-- The same as a word, and what tables have for the bytes of a word.
 unfoldable pub lowest_first : List ℕ → ℕ → ℕ
 lowest_first s a = get_or s a 0 + get_or s (a + 1) 0 * 256 + get_or s (a + 2) 0 * 65536 + get_or s (a + 3) 0 * 16777216
 

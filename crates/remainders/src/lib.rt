@@ -14,7 +14,8 @@ use outcome::{Refusal, refuse_unless};
 use replies::sum_all;
 use tables::{TOTAL, fill_others, write_last};
 
-// Divides a recording of long replies, 14 bytes each, and leaves the remainder of each.
+// Divides a recording of long replies, 14 bytes each, and leaves the remainder of each. The caller lends two buffers, one to be read and
+// one to be written; below too they stay two parameters.
 #[tactic(auto, using(outcome::proofs::Laws::writing), unfolding(crate::specs::Recording::remainders_outcome, crate::specs::Recording::remainders_after, crate::specs::Recording::are_as_many))]
 pub fn remainders(replies: &[u8], remainders: &mut [u32]) -> Result<(), Refusal>
     ensures result_value { said result ≡ remainders_outcome replies.now (length remainders.old) }

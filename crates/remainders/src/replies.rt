@@ -4,26 +4,16 @@
 // the bytes out of it.
 ghost use Rattle.std.specs.Prelude.{◌≤◌, ◌<◌, ◌+◌, ◌*◌, ◌≡◌, length};
 ghost use Rattle.remainders.specs.Recording.{remainders_of};
-ghost use Rattle.remainders.specs.Entries.{AreTables, lowest_first, highest_first, entry_in, entries_in, words_at, sum_of};
+ghost use Rattle.remainders.specs.Entries.{AreTables, four_at, entry_in, entries_in, words_at, sum_of};
 
 use crate::tables::{TOTAL, low_byte};
 
-// Four bytes as a word, the first of them the lowest.
-#[tactic(auto, unfolding(crate::specs::Entries::lowest_first))]
-fn lowest_first(s: &[u8], at: usize) -> u32
+// The four bytes from a place on.
+fn four(s: &[u8], at: usize) -> [u8; 4]
     requires { at + 4 ≤ length s.now }
-    ensures { result ≡ lowest_first s.now at }
+    ensures { result ≡ four_at s.now at }
 {
-    u32::from_le_bytes([s[at], s[at + 1], s[at + 2], s[at + 3]])
-}
-
-// And the first of them the highest.
-#[tactic(auto, unfolding(crate::specs::Entries::highest_first))]
-fn highest_first(s: &[u8], at: usize) -> u32
-    requires { at + 4 ≤ length s.now }
-    ensures { result ≡ highest_first s.now at }
-{
-    u32::from_be_bytes([s[at], s[at + 1], s[at + 2], s[at + 3]])
+    [s[at], s[at + 1], s[at + 2], s[at + 3]]
 }
 
 // What the table that starts at k has for the lowest byte of a word.
@@ -59,16 +49,17 @@ struct Words {
 }
 
 // The words of the reply that starts at a byte.
+#[tactic(auto, unfolding(crate::specs::Entries::lowest_first, crate::specs::Entries::highest_first))]
 fn words_from(replies: &[u8], from: usize) -> Words
     requires { from + 14 ≤ length replies.now }
     ensures { result ≡ words_at replies.now from }
 {
     Words {
-        first: lowest_first(replies, from),
-        second: lowest_first(replies, from + 4),
+        first: u32::from_le_bytes(four(replies, from)),
+        second: u32::from_le_bytes(four(replies, from + 4)),
         ninth: replies[from + 8],
         tenth: replies[from + 9],
-        last: highest_first(replies, from + 10),
+        last: u32::from_be_bytes(four(replies, from + 10)),
     }
 }
 

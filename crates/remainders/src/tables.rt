@@ -3,6 +3,7 @@
 ghost use Rattle.std.specs.Prelude.{◌<◌, ◌%◌, ◌≡◌};
 ghost use Rattle.remainders.specs.Entries.{HasLast, AreTables};
 
+// One array, and not eleven in one: a place in it is one number, by which the rule of every entry and each contract go.
 pub(crate) const TOTAL: usize = 2816;
 
 // Where the last table starts.
@@ -35,5 +36,6 @@ pub(crate) fn low_byte(word: u32) -> usize
     ensures value { result ≡ word % 256 }
     ensures upper_bound { result < 256 }
 {
-    (word % 256) as usize
+    let [lowest, ..] = word.to_le_bytes();
+    usize::from(lowest)
 }

@@ -41,6 +41,8 @@ impl Reply<'_> {
         None
     }
 
+    // That a place is at most the last window's stands in five contracts: a type for it would have to hold the reply that it is a place
+    // of, and be made at each turn of the two loops.
     #[tactic(auto, unfolding(crate::specs::Verdicts::dense_at))]
     fn is_dense_at(&self, place: usize, limit: u32) -> bool
         requires { place ≤ last_window self.now.marks.now }

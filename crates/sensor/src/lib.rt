@@ -6,9 +6,8 @@
 
 ghost use Rattle.std.specs.Prelude.{◌<◌, ◌^◌, ◌≡◌, true, length};
 ghost use Rattle.message.specs.Message.{is_message_length};
-ghost use Rattle.sensor.specs.Verdicts.{said, answered, syndrome, decision_of, decision_answer, decision_message, sensor_outcome, sensor_after};
+ghost use Rattle.sensor.specs.Verdicts.{mark_of, said, answered, syndrome, decision_of, decision_answer, decision_message, sensor_outcome, sensor_after};
 
-use inverting::invert;
 use outcome::{Refusal, refuse_unless};
 use reply::Reply;
 
@@ -17,14 +16,27 @@ mod inverting;
 mod reply;
 mod search;
 
-// Whether the correction applied was the only one possible.
+// Whether the correction applied was the only one possible. Other enums have two cases too, of another meaning.
 #[derive(Clone, Copy, Debug, PartialEq, Eq)]
 pub enum Mark {
     Sole,
     Several,
 }
 
-// A correction: the window that it was found in, the number of message bits inverted, and whether it was the only one.
+// The number of the mark.
+impl From<Mark> for u32 {
+    ghost from_gives = { λ mark n. n ≡ mark_of mark };
+
+    fn from(mark: Mark) -> u32 {
+        match mark {
+            Mark::Sole => 1,
+            Mark::Several => 2,
+        }
+    }
+}
+
+// A correction: the window that it was found in, the number of message bits inverted, and whether it was the only one. Other structs have
+// three fields too, of another meaning.
 #[derive(Clone, Copy, Debug, PartialEq, Eq)]
 pub struct Correction {
     pub window: u32,
@@ -78,7 +90,7 @@ fn judge(m: &mut [u8], c: &[u8], word: u32, limit: u32) -> Verdict
         return Verdict::NoFit;
     };
     let window = reply.number_at(fit.place);
-    invert(m, fit.pattern, fit.place);
+    fit.invert(m);
     Verdict::Corrected(Correction {
         window,
         bits: fit.pattern.count_ones(),

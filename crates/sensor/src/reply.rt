@@ -24,7 +24,7 @@ impl Reply<'_> {
         8 * self.marks.len() - 24
     }
 
-    // The number of the window at a place.
+    // The number of the window at a place. It is cast: Rust has no From to a narrower type, and `u32::try_from` would only test it again.
     pub(crate) fn number_at(&self, place: usize) -> u32
         requires { place ≤ last_window self.now.marks.now }
         ensures { result ≡ last_window self.now.message.now - place }
@@ -39,6 +39,6 @@ impl Reply<'_> {
         ensures { result.marks ≡ marks_at self.now.marks.now place }
     {
         let start = self.last_window() - place;
-        Window::within(&self.marks[start / 8..], (start % 8) as u32)
+        Window::within(&self.marks[start / 8..], start % 8)
     }
 }

@@ -20,7 +20,8 @@ pub(crate) struct Fit {
 }
 
 impl Fit {
-    // Whether a pattern at a place is the same message bits. A shift by less than 96 loses none of 32 bits.
+    // Whether a pattern at a place is the same message bits. A shift by less than 96 loses none of 32 bits. Pattern and place are no
+    // struct before they are a fit: the search goes from place to place, and the pattern changes with each.
     #[tactic(auto, using(crate::proofs::Bits::shifted_whole))]
     fn inverts(self, pattern: u32, place: usize) -> bool
         requires places { (self.place < 96) × (place < 96) }

@@ -9,13 +9,14 @@ use Prim.Native.Nat.{ℕ, ◌<◌, ◌^◌}
 use native.Mathlib.Omega.{arith}
 use lib.Dec.{eqb}
 use lib.ListN.{length, get_or}
+use Rattle.std.proofs.lemmas.Bool.Decides.{nat_tests}
 use borrow.Author.Tests.{eq-eqb, ne_eqb, eqb-true, eqb-false, not-true}
 use Rattle.outcome.specs.Outcomes.{Outcome, unless, Unrefused}
 use Rattle.outcome.specs.Outcomes.Outcome.{refusal, answer}
 use Rattle.std.specs.Prelude.{Result}
 use Rattle.outcome.specs.declared.Refusal.{Refusal}
 use Rattle.outcome.specs.Refusals.{wrong_length, word_too_large, first_bit_contradicts, own_address_reserved}
-use Rattle.outcome.proofs.Laws.{never, or_cases, or_second, passed, unless_unrefused, refusal_is_no_answer, said_by_injective}
+use Rattle.outcome.proofs.Laws.{never, or_second, passed, unless_unrefused, refusal_is_no_answer, said_by_injective}
 use Rattle.division.specs.Division.{address_read}
 use Rattle.message.specs.Message.{number, format_number, is_message_length, first_bit_agrees, is_word}
 use Rattle.message.proofs.Laws.{word_lt, lt-word}
@@ -26,55 +27,32 @@ use Rattle.transponder.specs.declared.Reception.TheVariants.{Own, AllCall, Broad
 -- ---- the formats of a broadcast
 
 broadcast_format : (f : ℕ) → is_broadcast_format f ≡ true → (f ≡ 20) ⊎ (f ≡ 21)
-broadcast_format f h = by (or_cases (eqb f 20) (eqb f 21) h)
-  where
-    by : (eqb f 20 ≡ true) ⊎ (eqb f 21 ≡ true) → (f ≡ 20) ⊎ (f ≡ 21)
-    by (inl e) = inl (eqb-true f 20 e)
-    by (inr e) = inr (eqb-true f 21 e)
+broadcast_format f h = grind (arith, nat_tests)
 
 is_broadcast_format_lem : (f : ℕ) → (f ≡ 20) ⊎ (f ≡ 21) → is_broadcast_format f ≡ true
-is_broadcast_format_lem f (inl e) = ap is_broadcast_format e
-is_broadcast_format_lem f (inr e) = ap is_broadcast_format e
-
-no_broadcast_format : (f : ℕ) → (f ≡ 20 → ⊥) → (f ≡ 21 → ⊥) → is_broadcast_format f ≡ false
-no_broadcast_format f g h = ap₂ ◌||◌ (ne_eqb f 20 g) (ne_eqb f 21 h)
-
--- 11 is none of them
-broadcast_not-all-call : (f : ℕ) → is_broadcast_format f ≡ true → f ≡ all_call_format → ⊥
-broadcast_not-all-call f h e = never h (ap is_broadcast_format e)
+is_broadcast_format_lem f h = grind (arith, nat_tests)
 
 -- ---- the answer by the address read and the format
 
--- what is left where the address read is not the own address, and the same by its tests
+-- what is left where the address read is not the own address
 abbrev picked : ℕ → Bool → Bool → Bool → Reception
 picked a s t u = cond (s && t) AllCall (cond (s && u) Broadcast (NotOurs a))
 
-abbrev others : ℕ → ℕ → Reception
-others a f = picked a (eqb a everyone) (eqb f all_call_format) (is_broadcast_format f)
-
-other : (own a f : ℕ) → (a ≡ own → ⊥) → others a f ≡ reception_of own a f
-unfolding reception_of
-other own a f n = sym (ap (λ (t : Bool). cond t Own (others a f)) (ne_eqb a own n))
-
 pub is_own_lem : (own a f : ℕ) → a ≡ own → Own ≡ reception_of own a f
 unfolding reception_of
-is_own_lem own a f e = sym (ap (λ (t : Bool). cond t Own (others a f)) (eq-eqb a own e))
+is_own_lem own a f e = grind (arith, nat_tests)
 
-pub is_all-call : (own a f : ℕ) → (a ≡ own → ⊥) → a ≡ everyone → f ≡ all_call_format → AllCall ≡ reception_of own a f
-is_all-call own a f n e g =
-    sym (ap₂ (λ (s t : Bool). picked a s t (is_broadcast_format f)) (eq-eqb a everyone e) (eq-eqb f all_call_format g))
-    ∙ other own a f n
+is_all-call : (own a f : ℕ) → (a ≡ own → ⊥) → a ≡ everyone → f ≡ all_call_format → AllCall ≡ reception_of own a f
+unfolding reception_of
+is_all-call own a f n e g = grind (arith, nat_tests)
 
--- to all in a format other than 11: a broadcast, or not ours
-pub is_other_format : (own a f : ℕ) → (a ≡ own → ⊥) → a ≡ everyone → (f ≡ all_call_format → ⊥) → (t : Bool) → is_broadcast_format f ≡ t
-    → cond t Broadcast (NotOurs a) ≡ reception_of own a f
-is_other_format own a f n e g t h =
-    sym (ap₂ (λ (x y : Bool). picked a x y (is_broadcast_format f)) (eq-eqb a everyone e) (ne_eqb f all_call_format g) ∙ ap (picked a true false) h)
-    ∙ other own a f n
+is_broadcast : (own a f : ℕ) → (a ≡ own → ⊥) → a ≡ everyone → (f ≡ 20) ⊎ (f ≡ 21) → Broadcast ≡ reception_of own a f
+unfolding reception_of
+is_broadcast own a f n e g = grind (arith, nat_tests)
 
-pub is_other_address : (own a f : ℕ) → (a ≡ own → ⊥) → (a ≡ everyone → ⊥) → NotOurs a ≡ reception_of own a f
-is_other_address own a f n e =
-    sym (ap (λ (s : Bool). picked a s (eqb f all_call_format) (is_broadcast_format f)) (ne_eqb a everyone e)) ∙ other own a f n
+is_not_ours : (own a f : ℕ) → (a ≡ own → ⊥) → (a ≡ everyone → (f ≡ all_call_format → ⊥) × (f ≡ 20 → ⊥) × (f ≡ 21 → ⊥)) → NotOurs a ≡ reception_of own a f
+unfolding reception_of
+is_not_ours own a f n h = grind (arith, nat_tests)
 
 -- The condition of each answer.
 abbrev pub Case : ℕ → ℕ → ℕ → Reception → Type 0
@@ -105,16 +83,8 @@ case own a f = by (eqb a own) refl (eqb a everyone) refl (eqb f all_call_format)
 pub case_only : (own a f : ℕ) (r : Reception) → Case own a f r → r ≡ reception_of own a f
 case_only own a f Own h = is_own_lem own a f h
 case_only own a f AllCall h = is_all-call own a f h.0 h.1 h.2
-case_only own a f Broadcast h =
-    let format : is_broadcast_format f ≡ true = is_broadcast_format_lem f h.2 in
-    is_other_format own a f h.0 h.1 (broadcast_not-all-call f format) true format
-case_only own a f (NotOurs b) h = ap NotOurs h.0 ∙ by (eqb a everyone) refl
-  where
-    by : (y : Bool) → eqb a everyone ≡ y → NotOurs a ≡ reception_of own a f
-    by true q =
-        let all : a ≡ everyone = eqb-true a everyone q in
-        is_other_format own a f h.1 all (h.2 all).0 false (no_broadcast_format f (h.2 all).1 (h.2 all).2)
-    by false q = is_other_address own a f h.1 (eqb-false a everyone q)
+case_only own a f Broadcast h = is_broadcast own a f h.0 h.1 h.2
+case_only own a f (NotOurs b) h = ap NotOurs h.0 ∙ is_not_ours own a f h.1 h.2
 
 -- ---- the outcome
 

@@ -31,6 +31,7 @@ pub fn receive(own: u32, m: &[u8]) -> Result<Reception, Refusal>
 }
 
 // The answer by the address read and the format number.
+#[tactic(auto, unfolding(crate::specs::Receptions::reception_of))]
 fn judge(own: u32, address: u32, format: u32) -> Reception
     ensures { result ≡ reception_of own address format }
 {
@@ -51,12 +52,13 @@ fn judge(own: u32, address: u32, format: u32) -> Reception
 fn is_broadcast_format(format: u32) -> bool
     ensures { result ≡ is_broadcast_format format }
 {
-    (format == 20) | (format == 21)
+    matches!(format, 20 | 21)
 }
 
-// Whether no aircraft may have an address as its own: 000000 and FFFFFF.
+// Whether no aircraft may have an address as its own: 000000 and FFFFFF. Written as the tests of two lengths are, but of addresses.
+#[tactic(auto, unfolding(crate::specs::Receptions::is_reserved))]
 pub fn is_reserved(own: u32) -> bool
     ensures { result ≡ is_reserved own }
 {
-    (own == 0) | (own == 0xFFFFFF)
+    matches!(own, 0 | 0xFFFFFF)
 }

@@ -6,7 +6,7 @@ use crate::marks::{bits_after, four_bytes};
 
 // Adds a pattern to the window that starts `offset` bits into the part.
 #[tactic(auto, unfolding(crate::specs::Windows::pattern_added))]
-pub fn invert_window(part: &mut [u8], offset: u32, pattern: u32)
+pub fn invert_window(part: &mut [u8], offset: usize, pattern: u32)
     ensures { part.new ≡ pattern_added part.old offset pattern }
 {
     let sum = four_bytes(part) ^ aligned(pattern, offset);
@@ -14,7 +14,7 @@ pub fn invert_window(part: &mut [u8], offset: u32, pattern: u32)
 }
 
 // The pattern as it stands in the four bytes; what is above them is dropped.
-fn aligned(pattern: u32, offset: u32) -> u32
+fn aligned(pattern: u32, offset: usize) -> u32
     ensures { result ≡ pattern * 2 ^ (8 - offset) % 2 ^ 32 }
 {
     pattern << bits_after(offset)

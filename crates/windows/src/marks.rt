@@ -13,7 +13,7 @@ pub struct Window {
 impl Window {
     // The window that starts `offset` bits into the first byte of a part.
     #[tactic(auto, unfolding(crate::specs::Windows::window_bits))]
-    pub fn within(part: &[u8], offset: u32) -> Window
+    pub fn within(part: &[u8], offset: usize) -> Window
         ensures { result.marks ≡ window_bits part.now offset }
     {
         Window {
@@ -44,11 +44,11 @@ pub fn is_sparse(part: &[u8], limit: u32) -> bool
 }
 
 // How many of the 32 bits are after the window.
-pub(crate) fn bits_after(offset: u32) -> u32
+pub(crate) fn bits_after(offset: usize) -> usize
     ensures value { result ≡ 8 - offset }
     ensures upper_bound { result ≤ 8 }
 {
-    8u32.saturating_sub(offset)
+    8usize.saturating_sub(offset)
 }
 
 // Read at once where there are four: this is asked of every window.
