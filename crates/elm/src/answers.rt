@@ -1,4 +1,5 @@
-// The columns of an answer, each with a space in front of it.
+// The columns of an answer, each with a space in front of it. They are not printed by `write!`:
+// what a method of `Output` appends is proved, and of what a formatter writes no contract says anything.
 use outcome::Refusal;
 use text::Output;
 use transponder::Reception;
@@ -57,6 +58,7 @@ pub(crate) fn put_sent(answer: Result<usize, Refusal>, buffer: &[u8], out: &mut 
     match answer {
         Ok(n) => {
             out.put_bytes(b" sent ");
+            // Rust has no From of a usize for a u64; nothing is lost.
             out.put_decimal(n as u64);
             out.put_bytes(b" - -");
         }

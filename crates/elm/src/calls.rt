@@ -77,18 +77,22 @@ fn send(
     let n = bytes(data, &mut data_buffer)?;
     let data = &data_buffer[..n];
     let mut buffer = [0x55u8; 240];
-    let lent = buffer.get_mut(..number(size, 3)? as usize)?;
+    let lent = buffer.get_mut(..count(size)?)?;
     let sent = match (name, numbers) {
         (b"open", []) => uplink_elm_sending::open(address, data, lent),
         (b"exchange", []) => uplink_elm_sending::exchange(address, data, lent),
         (b"round", [acknowledgement, s]) => {
-            let (acknowledgement, s) = (bits(acknowledgement)?, number(s, 3)? as usize);
-            uplink_elm_sending::round(address, data, acknowledgement, s, lent)
+            uplink_elm_sending::round(address, data, bits(acknowledgement)?, count(s)?, lent)
         }
         _ => return None,
     };
     put_sent(sent, lent, out);
     Some(())
+}
+
+// 1 to 3 decimal digits.
+fn count(s: &[u8]) -> Option<usize> {
+    usize::try_from(number(s, 3)?).ok()
 }
 
 // 16 acknowledgement bits: four capital hexadecimal digits.

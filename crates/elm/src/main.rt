@@ -32,5 +32,6 @@ fn main(rt: HostRuntime) {
         errors: rt.stderr(),
     };
     let mut end = End::new();
-    console.answer_lines(LONGEST, |columns, out| end.answer(columns, out));
+    // what went wrong has been said
+    let _ = console.answer_lines(LONGEST, |columns, out| end.answer(columns, out));
 }

@@ -7,7 +7,9 @@ use outcome::Refusal;
 use rollcall_plans::{Placed, Spot};
 use rollcall_table::Table;
 
-// Where an address stands, or the row 3 or 8 that refuses the call.
+// Where an address stands, or the row 3 or 8 that refuses the call. An address is looked for in a table, here and in search, and in found and
+// removal of planning: it is no part of the table, and none of them keeps the two.
+#[tactic(auto, using(rollcall_plans::proofs::Laws::locating))]
 pub(crate) fn locate(table: &Table, address: u32) -> Result<Spot, Refusal>
     ensures spot { IfOk result (IsSpotOf table.now address) }
     ensures refused { IfErr result (IsRefusalOf table.now address) }

@@ -8,6 +8,7 @@ use outcome::Refusal;
 use rollcall_plans::{Plan, Rolled};
 use rollcall_table::{Record, Sighting, Table, check_lengths};
 
+#[tactic(auto, unfolding(rollcall_plans::specs::Calls::clear_outcome, rollcall_plans::specs::Calls::clear_count, rollcall_plans::specs::Calls::clear_records))]
 pub(crate) fn clearing(table: &Table) -> Result<Plan, Refusal>
     ensures { IsClearing table.now result }
 {
@@ -15,6 +16,7 @@ pub(crate) fn clearing(table: &Table) -> Result<Plan, Refusal>
     Ok(rollcall_plans::clearing())
 }
 
+#[tactic(auto, using(rollcall_plans::proofs::Laws::finding), unfolding(rollcall_plans::specs::Calls::find_outcome))]
 pub(crate) fn found(table: &Table, address: u32) -> Result<Rolled, Refusal>
     ensures { said result ≡ find_outcome table.now.records.now table.now.places.now table.now.count address }
 {
@@ -22,6 +24,7 @@ pub(crate) fn found(table: &Table, address: u32) -> Result<Rolled, Refusal>
     Ok(rollcall_plans::found(spot))
 }
 
+#[tactic(auto, using(rollcall_plans::proofs::Laws::removes), unfolding(rollcall_plans::specs::Calls::remove_outcome, rollcall_plans::specs::Calls::remove_count, rollcall_plans::specs::Calls::remove_records, rollcall_plans::specs::Calls::remove_places))]
 pub(crate) fn removal(table: &Table, address: u32) -> Result<Plan, Refusal>
     ensures { IsRemoval table.now address result }
 {
@@ -29,6 +32,7 @@ pub(crate) fn removal(table: &Table, address: u32) -> Result<Plan, Refusal>
     Ok(rollcall_plans::removal(spot, table.count))
 }
 
+#[tactic(auto, using(rollcall_plans::proofs::Laws::adds), unfolding(rollcall_plans::specs::Calls::add_outcome, rollcall_plans::specs::Calls::add_count, rollcall_plans::specs::Calls::add_records, rollcall_plans::specs::Calls::add_places))]
 pub(crate) fn addition(table: &Table, s: Sighting) -> Result<Plan, Refusal>
     ensures { IsAddition table.now s result }
 {

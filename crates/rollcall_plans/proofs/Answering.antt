@@ -7,24 +7,23 @@ use native.Mathlib.Omega.{arith}
 use lib.Dec.{ltb}
 use lib.ListN.{length, set}
 use borrow.Author.Tests.{ltb-true}
-use Rattle.std.specs.Prelude.{Some, None, Result, Ok, Err, IsErrAnd}
+use Rattle.std.specs.Prelude.{position, Some, None, Result, Ok}
 use Rattle.outcome.specs.declared.Refusal.{Refusal}
-use Rattle.outcome.specs.Refusals.{number_of}
 use Rattle.outcome.specs.Outcomes.{Outcome, done, unless}
 use Rattle.outcome.specs.Outcomes.Outcome.{refusal, answer}
-use Rattle.outcome.proofs.Laws.{both}
+use Rattle.outcome.proofs.Laws.{both, refused_at}
 use Rattle.message.specs.Message.{is_word}
 use Rattle.rollcall_table.specs.declared.Record.{Record}
 use Rattle.rollcall_table.specs.declared.Sighting.{Sighting}
-use Rattle.rollcall_table.specs.Table.{largest, record_at, place_at, right_lengths, is_sound, holds, holder, free_place, is_in, has_room, unmarked, unmarked_all, record_of, position}
+use Rattle.rollcall_table.specs.Table.{largest, right_lengths, unmarked_all, record_at, place_at, is_sound, holds, holder, free_place, is_in, has_room, unmarked, record_of, position as position_of}
 use Rattle.rollcall_table.specs.Standing.{record_beats}
-use Rattle.rollcall_table.proofs.Laws.{below-count, parts, free_fewer, in-there}
+use Rattle.rollcall_table.proofs.Laws.{below-count, parts, free_fewer, free_position, in-there}
 use Rattle.rollcall_plans.specs.declared.Spot.{Spot}
 use Rattle.rollcall_plans.specs.declared.Plan.{Plan}
 use Rattle.rollcall_plans.specs.declared.Rolled.TheVariants.{Renewed, Held}
 use Rattle.rollcall_plans.specs.declared.Change.TheVariants.{Replaced}
 use Rattle.rollcall_plans.specs.Calls.{told, found, renewed, absent, held, checked, kept, add_answer, opened, closed, clear_outcome, clear_count, clear_records, find_outcome, remove_outcome, remove_count, remove_records, remove_places, add_outcome, add_count, add_records, add_places}
-use Rattle.rollcall_plans.specs.Plans.{placed_at, spot_of, found_by, clearing_plan, idle_of, removal_of, addition_of, Does}
+use Rattle.rollcall_plans.specs.Plans.{placed_at, spot_of, found_by, idle_of, removal_of, addition_of, Does}
 use Rattle.rollcall_plans.proofs.Spots.{checked_is}
 
 -- ---- find
@@ -37,49 +36,37 @@ found-answer rs ps n a s w t e = ap (λ (s : Spot). told (found_by s.held)) e �
     by true = refl
     by false = refl
 
-pub find_refused : (rs : List Record) (ps : List ℕ) (n a r : ℕ) → ((o : Outcome) → refusal r ≡ checked rs ps n a o) → refusal r ≡ find_outcome rs ps n a
-unfolding find_outcome
-find_refused rs ps n a r e = e _
+-- what find needs
+pub ruleset finding = (refused_at, found-answer)
 
--- ---- a call that is refused, and one that passed the rows 3 and 8
+-- ---- a call that passed the rows 3 and 8
 
-module _ (rs rs' : List Record) (ps ps' : List ℕ) (n n' : ℕ) where
-  refused : (z : Result Plan Refusal) (r : Refusal) (o : Outcome) → IsErrAnd z (λ q. q ≡ r) → refusal (number_of r) ≡ o → Does z rs ps n o (kept o n n') (kept o rs rs') (kept o ps ps')
-  refused (Ok p) r o h e = absurd h
-  refused (Err q) r o h e =
-      subst (λ (o : Outcome). Does (Err q) rs ps n o (kept o n n') (kept o rs rs') (kept o ps ps')) (ap (λ (r : Refusal). refusal (number_of r)) h ∙ e)
-      (record { within = tt; says = refl; counts = refl; records = refl; places = refl })
-
-  passed : (z : Result Plan Refusal) (a : ℕ) (o : Outcome) → is_word a ≡ true → is_sound rs ps n ≡ true → Does z rs ps n o (kept o n n') (kept o rs rs') (kept o ps ps')
-      → Does z rs ps n (checked rs ps n a o) (kept (checked rs ps n a o) n n') (kept (checked rs ps n a o) rs rs') (kept (checked rs ps n a o) ps ps')
-  passed z a o w t d = subst (λ (o : Outcome). Does z rs ps n o (kept o n n') (kept o rs rs') (kept o ps ps')) (sym (checked_is rs ps n a o w t)) d
+passed : (rs rs' : List Record) (ps ps' : List ℕ) (n n' : ℕ) (z : Result Plan Refusal) (a : ℕ) (o : Outcome) → is_word a ≡ true → is_sound rs ps n ≡ true
+    → Does z rs ps n o (kept o n n') (kept o rs rs') (kept o ps ps')
+    → Does z rs ps n (checked rs ps n a o) (kept (checked rs ps n a o) n n') (kept (checked rs ps n a o) rs rs') (kept (checked rs ps n a o) ps ps')
+passed rs rs' ps ps' n n' z a o w t d = subst (λ (o : Outcome). Does z rs ps n o (kept o n n') (kept o rs rs') (kept o ps ps')) (sym (checked_is rs ps n a o w t)) d
 
 -- the position lies within the list of a sound table
-pub position-le : (rs : List Record) (ps : List ℕ) (n a : ℕ) → is_sound rs ps n ≡ true → (position rs ps n a ≤ n) × (n ≤ length ps)
+pub position-le : (rs : List Record) (ps : List ℕ) (n a : ℕ) → is_sound rs ps n ≡ true → (position_of rs ps n a ≤ n) × (n ≤ length ps)
 position-le rs ps n a e = let p = parts rs ps n e in (below-count rs a n ps, subst (λ (k : ℕ). n ≤ k) p.same p.counted)
 
 -- an address that is live has its place and its position within
-held_within : (rs : List Record) (ps : List ℕ) (n a : ℕ) → is_sound rs ps n ≡ true → is_in rs a ≡ true → (holder rs a < length rs) × (position rs ps n a < n)
+held_within : (rs : List Record) (ps : List ℕ) (n a : ℕ) → is_sound rs ps n ≡ true → is_in rs a ≡ true → (holder rs a < length rs) × (position_of rs ps n a < n)
 held_within rs ps n a e i =
-    let there = both (ltb (position rs ps n a) n) (holds (record_at rs (place_at ps (position rs ps n a))) a) (in-there rs ps n a (parts rs ps n e) i).0 in
-    (ltb-true (holder rs a) (length rs) i, ltb-true (position rs ps n a) n there.0)
+    let there = both (ltb (position_of rs ps n a) n) (holds (record_at rs (place_at ps (position_of rs ps n a))) a) (in-there rs ps n a (parts rs ps n e) i).0 in
+    (ltb-true (holder rs a) (length rs) i, ltb-true (position_of rs ps n a) n there.0)
 
 -- ---- remove
 
-pub remove_refused : (rs : List Record) (ps : List ℕ) (n a : ℕ) (z : Result Plan Refusal) (r : Refusal) → IsErrAnd z (λ q. q ≡ r) → ((o : Outcome) → refusal (number_of r) ≡ checked rs ps n a o)
-    → Does z rs ps n (remove_outcome rs ps n a) (remove_count rs ps n a) (remove_records rs ps n a) (remove_places rs ps n a)
-unfolding remove_outcome remove_count remove_records remove_places
-remove_refused rs ps n a z r h e = refused rs _ ps _ n _ z r _ h (e _)
-
-pub remove_right : (rs : List Record) (ps : List ℕ) (n a : ℕ) (s : Spot) → is_word a ≡ true → is_sound rs ps n ≡ true → s ≡ spot_of rs ps n a
-    → Does (Ok (removal_of s.at s.held n)) rs ps n (remove_outcome rs ps n a) (remove_count rs ps n a) (remove_records rs ps n a) (remove_places rs ps n a)
+-- the first part of the conclusion says nothing: it shows `grind` the spot to take the law at
+pub removes : (rs : List Record) (ps : List ℕ) (n a : ℕ) → is_word a ≡ true → is_sound rs ps n ≡ true
+    → (spot_of rs ps n a ≡ spot_of rs ps n a)
+    × Does (Ok (removal_of (spot_of rs ps n a).at (spot_of rs ps n a).held n)) rs ps n (remove_outcome rs ps n a) (remove_count rs ps n a) (remove_records rs ps n a) (remove_places rs ps n a)
 unfolding spot_of remove_outcome remove_count remove_records remove_places
-remove_right rs ps n a s w t e =
-    subst (λ (s : Spot). Does (Ok (removal_of s.at s.held n)) rs ps n (remove_outcome rs ps n a) (remove_count rs ps n a) (remove_records rs ps n a) (remove_places rs ps n a)) (sym e)
-    (passed rs _ ps _ n _ _ a _ w t (by (is_in rs a) refl))
+removes rs ps n a w t = (refl, passed rs _ ps _ n _ _ a _ w t (by (is_in rs a) refl))
   where
     k : ℕ
-    k = position rs ps n a
+    k = position_of rs ps n a
 
     h : ℕ
     h = holder rs a
@@ -97,11 +84,6 @@ remove_right rs ps n a s w t e =
 -- the answer by the tests: w of the word, t of the table, i of the address, g of the room, b of the record held
 abbrev pub add_by : Bool → Bool → Bool → Bool → Bool → Outcome
 add_by w t i g b = unless w 3 (unless t 8 (add_answer i g (not i || b)))
-
-pub add_refused : (rs : List Record) (ps : List ℕ) (n : ℕ) (s : Sighting) (z : Result Plan Refusal) (r : Refusal) → IsErrAnd z (λ q. q ≡ r) → ((o : Outcome) → refusal (number_of r) ≡ checked rs ps n s.address o)
-    → Does z rs ps n (add_outcome rs ps n s) (add_count rs ps n s) (add_records rs ps n s) (add_places rs ps n s)
-unfolding add_outcome add_count add_records add_places
-add_refused rs ps n s z r h e = refused rs _ ps _ n _ z r _ h (e _)
 
 -- a live address: the reply beats the record held, or that one remains
 renewal : (rs : List Record) (ps : List ℕ) (n h : ℕ) (r : Record) (b : Bool) → h < length rs
@@ -125,15 +107,15 @@ room_of rs ps n e g =
     let few : length rs ≤ largest = p.few in
     record { raised = omega arith; free = h; small = omega arith; fits = subst (λ (k : ℕ). n < k) p.same fewer }
 
-pub add_right : (rs : List Record) (ps : List ℕ) (n : ℕ) (s : Sighting) (t : Spot) → is_word s.address ≡ true → is_sound rs ps n ≡ true → t ≡ spot_of rs ps n s.address
-    → Does (addition_of t.at t.held (cond (has_room rs) (Some (free_place rs)) None) n (record_of s)) rs ps n (add_outcome rs ps n s) (add_count rs ps n s) (add_records rs ps n s) (add_places rs ps n s)
+pub adds : (rs : List Record) (ps : List ℕ) (n : ℕ) (s : Sighting) → is_word s.address ≡ true → is_sound rs ps n ≡ true
+    → (spot_of rs ps n s.address ≡ spot_of rs ps n s.address)
+    × Does (addition_of (spot_of rs ps n s.address).at (spot_of rs ps n s.address).held (position (λ r. not r.live) rs) n (record_of s)) rs ps n (add_outcome rs ps n s) (add_count rs ps n s) (add_records rs ps n s)
+    (add_places rs ps n s)
 unfolding spot_of add_outcome add_count add_records add_places
-add_right rs ps n s t w u e =
-    subst (λ (t : Spot). Does (addition_of t.at t.held (cond (has_room rs) (Some f) None) n r) rs ps n (add_outcome rs ps n s) (add_count rs ps n s) (add_records rs ps n s) (add_places rs ps n s)) (sym e)
-    (passed rs _ ps _ n _ _ s.address _ w u (by (is_in rs s.address) refl (has_room rs) refl))
+adds rs ps n s w u = (refl, rw free_position (passed rs _ ps _ n _ _ s.address _ w u (by (is_in rs s.address) refl (has_room rs) refl)))
   where
     k : ℕ
-    k = position rs ps n s.address
+    k = position_of rs ps n s.address
 
     h : ℕ
     h = holder rs s.address
@@ -159,16 +141,19 @@ add_right rs ps n s t w u e =
 
 -- ---- clear
 
-pub clear_refused : (rs : List Record) (ps : List ℕ) (n : ℕ) (z : Result Plan Refusal) (r : Refusal) → IsErrAnd z (λ q. q ≡ r) → refusal (number_of r) ≡ unless (right_lengths (length rs) (length ps)) 8 done
-    → Does z rs ps n (clear_outcome rs ps) (clear_count rs ps n) (clear_records rs ps) ps
+-- of a table of right lengths it leaves no live record, and of another all as it was
+pub clear_done : (rs : List Record) (ps : List ℕ) (n : ℕ) → right_lengths (length rs) (length ps) ≡ true
+    → (clear_outcome rs ps ≡ done) × ((clear_count rs ps n ≡ 0) × (clear_records rs ps ≡ unmarked_all rs))
 unfolding clear_outcome clear_count clear_records
-clear_refused rs ps n (Ok p) r h e = absurd h
-clear_refused rs ps n (Err q) r h e =
-    subst (λ (o : Outcome). Does (Err q) rs ps n o (kept o n 0) (kept o rs (unmarked_all rs)) ps) (ap (λ (r : Refusal). refusal (number_of r)) h ∙ e)
-    (record { within = tt; says = refl; counts = refl; records = refl; places = refl })
+clear_done rs ps n e = (
+  ap (λ (t : Bool). unless t 8 done) e,
+  (ap (λ (t : Bool). kept (unless t 8 done) n 0) e, ap (λ (t : Bool). kept (unless t 8 done) rs (unmarked_all rs)) e),
+)
 
-pub clear_right : (rs : List Record) (ps : List ℕ) (n : ℕ) → done ≡ unless (right_lengths (length rs) (length ps)) 8 done
-    → Does (Ok clearing_plan) rs ps n (clear_outcome rs ps) (clear_count rs ps n) (clear_records rs ps) ps
+pub clear_refused : (rs : List Record) (ps : List ℕ) (n : ℕ) → right_lengths (length rs) (length ps) ≡ false
+    → (clear_outcome rs ps ≡ refusal 8) × ((clear_count rs ps n ≡ n) × (clear_records rs ps ≡ rs))
 unfolding clear_outcome clear_count clear_records
-clear_right rs ps n e =
-    subst (λ (o : Outcome). Does (Ok clearing_plan) rs ps n o (kept o n 0) (kept o rs (unmarked_all rs)) ps) e (record { within = tt; says = refl; counts = refl; records = refl; places = refl })
+clear_refused rs ps n e = (
+  ap (λ (t : Bool). unless t 8 done) e,
+  (ap (λ (t : Bool). kept (unless t 8 done) n 0) e, ap (λ (t : Bool). kept (unless t 8 done) rs (unmarked_all rs)) e),
+)

@@ -42,7 +42,8 @@ pub struct Spot {
 }
 
 // What a call changes: nothing; every live mark, which is unset; a record, which another replaces at its place; or a record and the list,
-// which its place enters at a position, or leaves there.
+// which its place enters at a position, or leaves there. That nothing changes is an arm as the others are: an Option round the rest would be
+// taken apart first wherever a change is matched.
 #[derive(Clone, Copy, Debug, PartialEq, Eq)]
 pub enum Change {
     Nothing,

@@ -22,10 +22,8 @@ impl Spot {
 pub fn found(spot: Spot) -> Rolled
     ensures { result ≡ found_by spot.held }
 {
-    match spot.held {
-        Some(held) => Rolled::Found(held.entry),
-        None => Rolled::Absent,
-    }
+    spot.held
+        .map_or(Rolled::Absent, |held| Rolled::Found(held.entry))
 }
 
 // What clear is to change.
@@ -67,7 +65,10 @@ pub fn addition(
 {
     match spot.held {
         Some(held) => Ok(renewal(held, count, entry)),
-        None => Ok(entrance(spot.at, free.ok_or(Refusal::TableFull)?, count, entry)),
+        None => {
+            let place = free.ok_or(Refusal::TableFull)?;
+            Ok(entrance(spot.at, Placed { place, entry }, count))
+        }
     }
 }
 
@@ -75,12 +76,11 @@ pub fn addition(
 fn renewal(held: Placed, count: usize, entry: Record) -> Plan
     ensures { result ≡ renewal_of held count entry }
 {
-    let place = held.place;
     if entry.beats(held.entry) {
         Plan {
             answer: Rolled::Renewed,
             count,
-            change: Change::Replaced(Placed { place, entry }),
+            change: Change::Replaced(Placed { entry, ..held }),
         }
     } else {
         idle(Rolled::Held, count)
@@ -88,13 +88,13 @@ fn renewal(held: Placed, count: usize, entry: Record) -> Plan
 }
 
 // A new address enters at a free place.
-fn entrance(at: usize, place: usize, count: usize, entry: Record) -> Plan
-    ensures { result ≡ entrance_of at place count entry }
+fn entrance(at: usize, put: Placed, count: usize) -> Plan
+    ensures { result ≡ entrance_of at put.place count put.entry }
 {
     Plan {
         answer: Rolled::Added,
         count: count.saturating_add(1),
-        change: Change::Entered(at, Placed { place, entry }),
+        change: Change::Entered(at, put),
     }
 }
 

@@ -63,38 +63,7 @@ unmark_end zero (r ∷ rs) h = absurd (not-suc-le-zero h)
 unmark_end (suc i) [] h = refl
 unmark_end (suc i) (r ∷ rs) h = ap (unmarked r ∷◌) (unmark_end i rs (le_of_suc-le-suc h))
 
--- ---- a record that is read
-
-pub record_within : (rs : List Record) (p q : ℕ) (r : Record) → true ≡ ltb p (length rs) → r ≡ get_or rs p r → p ≡ q → record_at rs q ≡ r
-record_within rs p q r l e s = ap (λ (k : ℕ). record_at rs k) (sym s) ∙ get_or_default rs p blank r (ltb-true p (length rs) (sym l)) ∙ sym e
-
-pub record_past : (rs : List Record) (p q : ℕ) → false ≡ ltb p (length rs) → p ≡ q → record_at rs q ≡ blank
-record_past rs p q l s = ap (λ (k : ℕ). record_at rs k) (sym s) ∙ get_or-eq_default rs blank (ltb-false p (length rs) (sym l))
-
 -- ---- the list's order
-
--- what the record listed at i says of the list from i on
-order_at_turn : (rs : List Record) (least i : ℕ) (qs : List ℕ) (b : Bool) → i < length qs → is_next least (record_at rs (get_or qs i 0)) ≡ b
-    → in_order rs least (drop i qs) ≡ (b && in_order rs (address_at rs (get_or qs i 0) + 1) (drop (i + 1) qs))
-unfolding in_order
-order_at_turn rs least i qs b h e =
-    let q = get_or qs i 0 in
-    let rest = drop (i + 1) qs in
-    ap (in_order rs least) (drop-cons qs i 0 h ∙ ap (λ (k : ℕ). q ∷ drop k qs) (sym (add-one i)))
-    ∙ ap (λ (c : Bool). c && in_order rs (suc (address_at rs q)) rest) e ∙ ap (λ (k : ℕ). b && in_order rs k rest) (sym (add-one (address_at rs q)))
-
-pub order_stops : (rs : List Record) (least i : ℕ) (qs : List ℕ) → i < length qs → is_next least (record_at rs (get_or qs i 0)) ≡ false → in_order rs least (drop i qs) ≡ false
-order_stops rs least i qs h e = order_at_turn rs least i qs false h e
-
-pub order_goes_on : (rs : List Record) (least i : ℕ) (qs : List ℕ) → i < length qs → is_next least (record_at rs (get_or qs i 0)) ≡ true
-    → in_order rs least (drop i qs) ≡ in_order rs (address_at rs (get_or qs i 0) + 1) (drop (i + 1) qs)
-order_goes_on rs least i qs h e = order_at_turn rs least i qs true h e
-
-pub order_ends : (rs : List Record) (least i : ℕ) (qs : List ℕ) → length qs ≤ i → in_order rs least (drop i qs) ≡ true
-unfolding in_order
-order_ends rs least i qs h = ap (in_order rs least) (drop_all i qs h)
-
--- ---- the search
 
 -- what a record is that may be listed next
 pub next-parts : (least : ℕ) (r : Record) → is_next least r ≡ true → (r.live ≡ true) × ((least ≤ r.address) × (is_word r.address ≡ true))
@@ -102,6 +71,36 @@ next-parts least r e =
     let p = both r.live (leb least r.address && is_word r.address) e in
     let q = both (leb least r.address) (is_word r.address) p.1 in
     (p.0, (leb-true least r.address q.0, q.1))
+
+-- a listed place within the records names its record, and any other place the blank one
+pub record_within : (rs : List Record) (p : ℕ) (r : Record) → true ≡ ltb p (length rs) → r ≡ get_or rs p r → record_at rs p ≡ r
+record_within rs p r l e = get_or_default rs p blank r (ltb-true p (length rs) (sym l)) ∙ sym e
+
+pub record_past : (rs : List Record) (p : ℕ) → false ≡ ltb p (length rs) → record_at rs p ≡ blank
+record_past rs p l = get_or-eq_default rs blank (ltb-false p (length rs) (sym l))
+
+-- what the record listed at i says of the list from i on
+pub order_turn : (rs : List Record) (least i : ℕ) (qs : List ℕ) → i < length qs
+    → in_order rs least (drop i qs) ≡ (is_next least (record_at rs (get_or qs i 0)) && in_order rs (address_at rs (get_or qs i 0) + 1) (drop (i + 1) qs))
+unfolding in_order
+order_turn rs least i qs h =
+    let q = get_or qs i 0 in
+    ap (in_order rs least) (drop-cons qs i 0 h ∙ ap (λ (k : ℕ). q ∷ drop k qs) (sym (add-one i)))
+    ∙ ap (λ (k : ℕ). is_next least (record_at rs q) && in_order rs k (drop (i + 1) qs)) (sym (add-one (address_at rs q)))
+
+pub order_ends : (rs : List Record) (least i : ℕ) (qs : List ℕ) → length qs ≤ i → in_order rs least (drop i qs) ≡ true
+unfolding in_order
+order_ends rs least i qs h = ap (in_order rs least) (drop_all i qs h)
+
+-- so its address can be raised by one
+pub next_small : (least : ℕ) (r : Record) → is_next least r ≡ true → r.address ≤ 0xFFFFFF
+unfolding is_word
+next_small least r e = let w = (next-parts least r e).1.1 in leb-true r.address 0xFFFFFF w
+
+-- what the walk along the list needs
+pub ruleset walking = (record_within, record_past, order_turn, order_ends, next_small)
+
+-- ---- the search
 
 -- the first of some places in order, and the rest
 pub order_parts : (rs : List Record) (least q : ℕ) (qs : List ℕ) → in_order rs least (q ∷ qs) ≡ true → (is_next least (record_at rs q) ≡ true) × (in_order rs (suc (address_at rs q)) qs ≡ true)

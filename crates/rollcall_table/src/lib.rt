@@ -23,7 +23,8 @@ pub enum Grade {
 }
 
 // What is held of one aircraft: the altitude in feet, if there is one; the time in milliseconds. The mark stands beside the fields, and
-// not round them in an Option: a record that is not live may hold anything, and clear and remove leave in it what it held.
+// not round them in an Option: a record that is not live may hold anything, and clear and remove leave in it what it held. The fields
+// are those of a Sighting, but no Sighting is part of it: whoever holds a table fills it record by record.
 #[derive(Clone, Copy, Debug, PartialEq, Eq)]
 pub struct Record {
     pub live: bool,

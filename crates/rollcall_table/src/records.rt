@@ -4,7 +4,7 @@ ghost use Rattle.rollcall_table.specs.Table.{blank as blank_record, holds, is_ne
 
 use crate::{Grade, Record, Sighting};
 
-// What stands where there is no record.
+// What stands where there is no record. By a name, and not by `Default`: no value of a record is the one to be expected.
 pub fn blank() -> Record
     ensures { result ≡ blank_record }
 {
@@ -36,10 +36,10 @@ impl Record {
     }
 
     // Whether it can be listed next, after addresses below the least one.
-    pub(crate) fn is_next(self, least: usize) -> bool
+    pub(crate) fn is_next(self, least: u32) -> bool
         ensures { result ≡ is_next least self }
     {
-        self.live && least <= self.address as usize && message::is_word(self.address)
+        self.live && least <= self.address && message::is_word(self.address)
     }
 }
 

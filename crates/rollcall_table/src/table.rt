@@ -8,8 +8,8 @@ ghost use Rattle.rollcall_table.specs.Checks.{verdict_of};
 use crate::{LARGEST, Record};
 use outcome::{Refusal, refuse_unless};
 
-// The records, one per aircraft; the places that list the live ones; their count. The slices are lent with the count beside them, since
-// the project keeps no memory of its own.
+// The records, one per aircraft; the places that list the live ones; their count. It stands beside the slices because a call is given
+// the count and answers the one after it.
 #[derive(Clone, Copy)]
 pub struct Table<'a> {
     pub records: &'a [Record],
@@ -66,6 +66,7 @@ impl Table<'_> {
     }
 
     // Whether the first places by the count name live records by strictly ascending address.
+    #[tactic(auto, using(crate::proofs::Along::walking))]
     fn is_in_order(&self) -> bool
         requires { self.now.count ≤ length self.now.places.now }
         ensures { result ≡ in_order self.now.records.now 0 (take self.now.count self.now.places.now) }
@@ -73,7 +74,7 @@ impl Table<'_> {
         let mut least = 0;
         for place in &self.places[..self.count] {
             match self.records.get(usize::from(*place)) {
-                Some(r) if r.is_next(least) => least = r.address as usize + 1,
+                Some(r) if r.is_next(least) => least = r.address + 1,
                 _ => return false,
             }
         }

@@ -1,4 +1,5 @@
-// What a line is answered, column by column.
+// What a line is answered, column by column. It is not printed by `write!`: what a method of `Output` appends is proved, and of what
+// a formatter writes no contract says anything.
 use rollcall::{Record, Reply, Rolled};
 use text::Output;
 
@@ -15,6 +16,7 @@ pub(crate) fn put_answer(reply: Reply, out: &mut Output<'_>) {
         Ok(Rolled::Held) => out.put_bytes(b" held "),
         Err(_) => out.put_bytes(b" refused "),
     }
+    // Rust has no From of a usize for a u64; nothing is lost.
     out.put_decimal(reply.count as u64);
     match reply.answer {
         Ok(Rolled::Found(record)) => {

@@ -1,7 +1,7 @@
 // A line taken apart into what it asks for, and the numbers that its arguments write.
 ghost use Rattle.std.specs.Prelude.{◌≤◌};
 
-use console::word;
+use console::{bit, word};
 use rollcall::{Grade, Record, Sighting};
 
 // What a line asks for: it sets the table, makes a call or prints the table.
@@ -67,7 +67,7 @@ pub(crate) fn read(columns: &[&[u8]]) -> Option<Line> {
         ] => Line::Record {
             index: index(record_index)?,
             record: Record {
-                live: is_live(live)?,
+                live: bit(live)?,
                 ..Record::from(sighting(address, altitude, time, grade)?)
             },
         },
@@ -83,14 +83,6 @@ fn sighting(address: &[u8], altitude: &[u8], time: &[u8], grade: &[u8]) -> Optio
         time: number(time)?,
         grade: grade_of(grade)?,
     })
-}
-
-fn is_live(s: &[u8]) -> Option<bool> {
-    match s {
-        b"0" => Some(false),
-        b"1" => Some(true),
-        _ => None,
-    }
 }
 
 fn grade_of(s: &[u8]) -> Option<Grade> {

@@ -24,6 +24,7 @@ use table::Roster;
 // bytes, each with a comma or a space, and a line feed.
 const LONGEST: usize = 53281;
 
+// Each program has a main of its own, with its name and its state: elm's differs in these alone. What they share is the Console.
 fn main(rt: HostRuntime) {
     let mut console = Console {
         program: "roster",
@@ -32,5 +33,6 @@ fn main(rt: HostRuntime) {
         errors: rt.stderr(),
     };
     let mut roster = Roster::new();
-    console.answer_lines(LONGEST, |columns, out| roster.answer(columns, out));
+    // what went wrong has been said
+    let _ = console.answer_lines(LONGEST, |columns, out| roster.answer(columns, out));
 }

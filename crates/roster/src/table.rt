@@ -1,4 +1,5 @@
 // The table that the lines set, call and print. The memory is fixed: a table of the longest lengths, of which a line asks for parts.
+// Arrays with their lengths beside them, and no `ArrayVec`: a line sets both lengths and the count apart, as the calls are given them.
 use crate::answers::{put_answer, put_list, put_record};
 use crate::lines;
 use crate::lines::{Call, Line, TableLength};
@@ -82,18 +83,18 @@ impl Roster {
     }
 
     fn call(&mut self, call: Call) -> Reply {
-        let sizes = self.sizes;
         let Roster {
             records,
             places,
-            ..
+            sizes,
         } = self;
-        make(call, records, places, sizes)
+        make(call, records, places, *sizes)
     }
 
     fn put(&self, answer: &[u8], out: &mut Output<'_>) {
         out.put_bytes(answer);
         out.put_byte(b' ');
+        // Rust has no From of a usize for a u64; nothing is lost.
         out.put_decimal(self.sizes.count as u64);
     }
 }

@@ -1,5 +1,5 @@
 -- What a segment does, by its RC and its NC: how the definitions split by their tests.
-use mathlib.Core.Path.{◌≡◌, refl, sym, ap, ap₂, ◌∙◌}
+use mathlib.Core.Path.{◌≡◌, refl, sym, ap, ◌∙◌}
 use mathlib.Core.Bool.{Bool, true, false, cond}
 use mathlib.Core.List.{List, []}
 use Prim.Native.Nat.{ℕ, ◌+◌, ◌*◌, ◌/◌, ◌%◌, ◌^◌, ◌<◌}
@@ -7,12 +7,12 @@ use native.Mathlib.Omega.{arith}
 use lib.Dec.{eqb}
 use lib.ListN.{length, get_or, drop}
 use borrow.Author.Tests.{eqb-true, eq-eqb}
-use Rattle.std.specs.Prelude.{Option, Some, None, Result, Ok, Err, IsErrAnd}
+use Rattle.std.specs.Prelude.{Some, None, Result, Ok, Err, IsErrAnd}
 use Rattle.outcome.specs.Outcomes.{Outcome, Unrefused, admission, unless, done}
 use Rattle.outcome.specs.Outcomes.Outcome.{refusal, answer}
 use Rattle.outcome.specs.Refusals.{number_of}
 use Rattle.outcome.specs.declared.Refusal.{Refusal}
-use Rattle.outcome.proofs.Laws.{never, refusal_is_no_answer, said_by_injective, admission_injective}
+use Rattle.outcome.proofs.Laws.{never, refused_at, refusal_is_no_answer, said_by_injective, admission_injective}
 use Rattle.message.specs.Message.{number, format_number, first_bit_agrees}
 use Rattle.message.proofs.Laws.{long_by_first_bit}
 use Rattle.division.specs.Division.{address_read}
@@ -23,8 +23,8 @@ use Rattle.transponder.proofs.Laws.{admitted}
 use Rattle.uplink_elm.specs.declared.Receiver.{Receiver}
 use Rattle.uplink_elm.specs.declared.Progress.{Progress}
 use Rattle.uplink_elm.specs.declared.Answer.{Answer}
-use Rattle.uplink_elm.specs.Segments.{is_extended, reply_control, segment_number, segment, stored}
-use Rattle.uplink_elm.specs.Receiving.{Effect, one, progress_of, with_progress, said, effect_of, own_effect, is_own, call_effect, receiver_of, segments_of, outcome_of, receiving_outcome, receiver_after, segments_after}
+use Rattle.uplink_elm.specs.Segments.{is_extended, reply_control, segment_number}
+use Rattle.uplink_elm.specs.Receiving.{Effect, one, progress_of, with_progress, said, own_effect, is_own, call_effect, receiver_of, segments_of, outcome_of, receiving_outcome, receiver_after, segments_after}
 
 -- ---- the rows of a segment
 
@@ -42,43 +42,6 @@ row_refused (Err d) false e f a h = (refl, sym h ∙ same_error (admission_injec
 pub ruleset refusing = (row_refused)
 
 -- ---- what an effect makes of a call, by the transponder's answer
-
-module _ (own : ℕ) (m : List ℕ) (r : Receiver) (o : Outcome) (h : o ≡ reception_outcome own m) (k : Effect)
-    (e : k ≡ cond (is_own o) (own_effect m r) (Ok None)) where
-  made : k ≡ call_effect own m r
-  unfolding call_effect
-  made = e ∙ ap (λ (q : Outcome). cond (is_own q) (own_effect m r) (Ok None)) h
-
-  pub call_outcome : outcome_of k o r ≡ receiving_outcome own m r
-  unfolding receiving_outcome
-  call_outcome = ap₂ (λ (x : Effect) (q : Outcome). outcome_of x q r) made h
-
-  pub call_receiver : receiver_of k r ≡ receiver_after own m r
-  unfolding receiver_after
-  call_receiver = ap (λ (x : Effect). receiver_of x r) made
-
-  pub call_segments : (s : List ℕ) → segments_of k m s ≡ segments_after own m r s
-  unfolding segments_after
-  call_segments s = ap (λ (x : Effect). segments_of x m s) made
-
--- a call that is not refused: the receiver that it leaves, and the answer with its progress
-pub stores_next : (n : Option Receiver) (next r x : Receiver) (m s t : List ℕ) → n ≡ Some next → x ≡ next → t ≡ stored (segment_number m) (segment m) s
-    → (x ≡ receiver_of (Ok n) r) × (t ≡ segments_of (Ok n) m s)
-stores_next None next r x m s t p e f = absurd (cc)
-stores_next (Some k) next r x m s t p e f = (cc, f)
-
-pub stores_nothing : (n : Option Receiver) (r x : Receiver) (m s t : List ℕ) → ((next : Receiver) → n ≡ Some next → ⊥) → x ≡ r → t ≡ s
-    → (x ≡ receiver_of (Ok n) r) × (t ≡ segments_of (Ok n) m s)
-stores_nothing None r x m s t h e f = (e, f)
-stores_nothing (Some k) r x m s t h e f = absurd (h k refl)
-
-pub with_next : (n : Option Receiver) (o : Outcome) (r x : Receiver) (p : Progress) → x ≡ receiver_of (Ok n) r → p ≡ progress_of x
-    → with_progress o p ≡ outcome_of (Ok n) o r
-with_next n o r x p e f = ap (with_progress o) (f ∙ ap (λ (y : Receiver). progress_of y) e) ∙ by n
-  where
-    by : (k : Option Receiver) → with_progress o (progress_of (receiver_of (Ok k) r)) ≡ outcome_of (Ok k) o r
-    by None = refl
-    by (Some next) = refl
 
 -- an answer other than 'own' leaves the receiver and the bytes
 pub other_leaves : (own : ℕ) (m : List ℕ) (r : Receiver) (s : List ℕ) → is_own (reception_outcome own m) ≡ false
@@ -150,17 +113,13 @@ pub number-lt_16 : (m : List ℕ) → segment_number m < 16
 unfolding segment_number
 number-lt_16 m = omega arith
 
--- what stores is a long message of this format
-pub stores_long : (own : ℕ) (m : List ℕ) (r next : Receiver) (o : Outcome) (n : Option Receiver) → o ≡ reception_outcome own m
-    → Ok n ≡ cond (is_own o) (own_effect m r) (Ok None) → n ≡ Some next → length m ≡ 14
-unfolding own_effect
-stores_long own m r next o n h e p = by (is_own o) refl (is_extended m) refl n e p
-  where
-    by : (t : Bool) → is_own o ≡ t → (u : Bool) → is_extended m ≡ u → (n : Option Receiver)
-        → Ok n ≡ cond t (cond u (effect_of (reply_control m) (segment_number m) r) (Ok None)) (Ok None) → n ≡ Some next → length m ≡ 14
-    by true i true f n q p = long_message own m (own_answer own m (ap is_own (sym h) ∙ i)) f
-    by true i false f n q p = absurd (cc)
-    by false i u f n q p = absurd (cc)
+-- what stores is a long message of this format; the first part says nothing: it shows `grind` the call to take the law at
+pub stores_long : (own : ℕ) (m : List ℕ) → is_own (reception_outcome own m) ≡ true → is_extended m ≡ true
+    → (reception_outcome own m ≡ reception_outcome own m) × (length m ≡ 14)
+stores_long own m i f = (refl, long_message own m (own_answer own m i) f)
+
+-- what a call needs
+pub ruleset advancing = (refused_at, stores_long)
 
 -- ---- different answers of the code are different answers
 

@@ -4,17 +4,22 @@ use mathlib.Core.Path.{◌≡◌, refl, sym, ap, ap₂, ◌∙◌, subst}
 use mathlib.Core.Bool.{Bool, true, false, ◌&&◌}
 use mathlib.Core.Logic.{◌⊎◌, inl, inr}
 use Prim.Native.Nat.{ℕ, zero, suc, ◌+◌, ◌-◌, ◌*◌, ◌/◌, ◌%◌, ◌^◌, ◌<◌, ◌≤◌, max}
-use native.Mathlib.Nat.{add-zero, not-suc-le-zero, le_of_suc-le-suc, eq-or-lt_of_le, max-le, max-zero, one-mul, zero-add, zero-div, pow-suc}
+use native.Mathlib.Nat.{not-suc-le-zero, le_of_suc-le-suc, eq-or-lt_of_le, max-le, max-zero, one-mul, zero-add, zero-div, pow-suc}
 use native.Mathlib.Omega.{arith}
-use Rattle.std.specs.List.{list_all, range_with_len}
 use lib.Bits.{bit_or, or_step, or_shr, or_lt, or_zero_l}
-use lib.Dec.{eqb, ltb}
-use lib.Pow.{pow-lt, pow-add, shl-shr, shr_lt}
+use lib.Dec.{eqb, ltb, lit<}
+use lib.Pow.{shl_exact, pow-lt, pow-add, shl-shr, shr_lt}
 use borrow.Author.Tests.{eqb-true, eq-eqb, ltb-true, ltb-false, lt-ltb, le-ltb}
-use Rattle.outcome.proofs.Laws.{both, positive}
+use Rattle.outcome.proofs.Laws.{never, both, positive}
 use Rattle.uplink_elm.specs.declared.Receiver.{Receiver}
 use Rattle.uplink_elm.specs.Segments.{bit_of, is_held, with_number, all_below}
 use Rattle.uplink_elm.specs.Receiving.{is_whole}
+
+-- ---- the bit of a number: none is lost by the shift
+
+pub bit_exact : (n : ℕ) → n < 16 → 1 * 2 ^ (15 - n) % 2 ^ 16 ≡ bit_of n
+unfolding bit_of
+bit_exact n h = shl_exact 1 (15 - n) 16 (lit< tt) (omega arith) ∙ one-mul _
 
 -- ---- all numbers below one
 
@@ -27,6 +32,14 @@ each_below f (suc n) e k h = by (eq-or-lt_of_le (le_of_suc-le-suc h)) (each_belo
     by (inl p) below = ap f p ∙ (both (all_below f n) (f n) e).1
     by (inr l) below = below l
 
+-- one that is not held is enough
+pub lacks : (held n k : ℕ) → is_held held k ≡ false → k < n → all_below (is_held held) n ≡ false
+lacks held n k e h = by (all_below (is_held held) n) refl
+  where
+    by : (b : Bool) → all_below (is_held held) n ≡ b → b ≡ false
+    by true f = absurd (never (each_below (is_held held) n f k h) e)
+    by false f = refl
+
 pub next-below : (f : ℕ → Bool) (n : ℕ) → all_below f n ≡ true → f n ≡ true → all_below f (suc n) ≡ true
 unfolding all_below
 next-below f n e g = ap₂ ◌&&◌ e g
@@ -35,28 +48,6 @@ pub all-below : (f : ℕ → Bool) (n : ℕ) → ((k : ℕ) → k < n → f k �
 unfolding all_below
 all-below f zero h = refl
 all-below f (suc n) h = next-below f n (all-below f n (λ k l. h k (omega arith))) (h n (omega arith))
-
--- the same of the list of those numbers, which an iterator goes through
-all_from : (f : ℕ → Bool) (a n : ℕ) → list_all f (range_with_len a (suc n)) ≡ (list_all f (range_with_len a n) && f (a + n))
-all_from f a zero = ends (f a) ∙ ap f (sym (add-zero a))
-  where
-    ends : (t : Bool) → (t && true) ≡ t
-    ends true = refl
-    ends false = refl
-all_from f a (suc n) =
-    let next : a + 1 + n ≡ a + suc n = omega arith in
-    ap (λ (t : Bool). f a && t) (all_from f (a + 1) n ∙ ap (λ (k : ℕ). list_all f (range_with_len (a + 1) n) && f k) next)
-    ∙ grouped (f a) (list_all f (range_with_len (a + 1) n)) (f (a + suc n))
-  where
-    grouped : (t u v : Bool) → (t && (u && v)) ≡ ((t && u) && v)
-    grouped true u v = refl
-    grouped false u v = refl
-
-pub all_below-range : (f : ℕ → Bool) (n : ℕ) → list_all f (range_with_len 0 n) ≡ all_below f n
-unfolding all_below
-all_below-range f zero = refl
-all_below-range f (suc n) =
-    all_from f 0 n ∙ ap₂ (λ (t : Bool) (k : ℕ). t && f k) (all_below-range f n) (zero-add n)
 
 -- ---- a number held is one of 16
 

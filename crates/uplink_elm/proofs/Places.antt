@@ -27,9 +27,9 @@ pub part_length : (a n : ℕ) (l : List ℕ) → a + n ≤ length l → length (
 part_length a n l h = length-take-le n (drop a l) (omega (arith, length-drop a l))
 
 -- ten bytes of the message, copied to the ten bytes from place n on
-pub put-segment : (n : ℕ) (m s ys : List ℕ) → ys ≡ take 10 (drop 1 m) → put_mid (n * 10) (n * 10 + 10 - n * 10) s ys ≡ stored n (segment m) s
+pub put_segment : (n : ℕ) (m s ys : List ℕ) → ys ≡ take 10 (drop 1 m) → put_mid (n * 10) (n * 10 + 10 - n * 10) s ys ≡ stored n (segment m) s
 unfolding stored segment
-put-segment n m s ys f =
+put_segment n m s ys f =
     ap (λ (t : List ℕ). take (n * 10) s ++ (ys ++ t)) (Post-is (n * 10) (n * 10 + 10) s (omega arith))
     ∙ ap (λ (b : List ℕ). take (n * 10) s ++ (b ++ drop (n * 10 + 10) s)) f
 

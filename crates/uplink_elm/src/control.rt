@@ -4,6 +4,8 @@ ghost use Rattle.uplink_elm.specs.Segments.{is_extended, reply_control, segment_
 ghost use Rattle.uplink_elm.specs.Control.{number_of, control_of};
 
 // What a segment is sent for, by its RC (reply control): it opens a message, is one of a round, or asks for the acknowledgement.
+//
+// Three cases with a number each, as the Grade of a reply has in the roll call: no one enum would serve both, nor one conversion.
 #[derive(Clone, Copy, Debug, PartialEq, Eq)]
 pub enum Control {
     Opening,
@@ -33,6 +35,7 @@ pub(crate) struct Number {
 
 impl Number {
     // Its bit in the numbers held.
+    #[tactic(auto, using(crate::proofs::Numbers::bit_exact))]
     pub(crate) fn bit(self) -> u16
         ensures { result ≡ bit_of self.value }
     {
@@ -47,7 +50,7 @@ pub(crate) fn is_extended(m: &[u8]) -> bool
     first_byte(m) / 64 == 3
 }
 
-// None of RC 3.
+// None of RC 3. The other way from `From<Control>`, and no `TryFrom`: its error would say no more than None does.
 #[tactic(auto, unfolding(crate::specs::Segments::reply_control))]
 pub(crate) fn reply_control(m: &[u8]) -> Option<Control>
     ensures { result ≡ control_of (reply_control m.now) }

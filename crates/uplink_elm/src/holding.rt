@@ -24,11 +24,17 @@ impl Receiver {
     }
 }
 
-// All numbers up to the last.
+// All numbers up to the last. A loop, since of `(0..last).all(..)` the check does not find what the closure answers at each number.
+#[tactic(auto, using(crate::proofs::Numbers::lacks), unfolding(crate::specs::Segments::all_below))]
 fn all_held(held: u16, last: u8) -> bool
     ensures { result ≡ all_below (is_held held) (suc last) }
 {
-    (0..last).all(|n| is_held(held, n)) && is_held(held, last)
+    for n in 0..last {
+        if !is_held(held, n) {
+            return false;
+        }
+    }
+    is_held(held, last)
 }
 
 // Whether a number is held; one above 15 never is.

@@ -2,7 +2,7 @@
 // interrogations of uplink format 24.
 //
 // The receiver is a small struct by value: whether a message is opened, its last number, and which numbers are held. The bytes
-// of its 16 places are lent beside it. What a segment does is decided by value (`own_effect`); one function touches the bytes.
+// of its 16 places are lent beside it. What a segment does is decided by value (`effect`); one function touches the bytes.
 // What is known of the transponder is its public function and its contract.
 #![tactic(auto)]
 
@@ -25,6 +25,9 @@ use transponder::Reception;
 //
 // An `Option` of a message would be narrower: a caller may hand in any value, also one that is not opened and holds something,
 // and is told what it holds.
+//
+// This struct, Progress, Answer and Received look as Spot, Placed, Reply and Plan of the roll call do, which have two or three fields too;
+// each has fields of its own meaning and types.
 #[derive(Clone, Copy, Debug, PartialEq, Eq)]
 pub struct Receiver {
     pub opened: bool,
@@ -32,7 +35,8 @@ pub struct Receiver {
     pub held: u16,
 }
 
-// How far a message has come: the acknowledgement, and whether all its segments are held.
+// How far a message has come: the acknowledgement, and whether all its segments are held. The acknowledgement counts whether they are or
+// not, so `whole` is no sign of it, and no Option would hold both.
 #[derive(Clone, Copy, Debug, PartialEq, Eq)]
 pub struct Progress {
     pub acknowledgement: u16,
@@ -46,14 +50,15 @@ pub struct Answer {
     pub progress: Progress,
 }
 
-// What a call gives: its answer, and the receiver after it.
+// What a call gives: its answer, and the receiver after it. The call takes the receiver by value, so that a caller still has the one
+// before it.
 #[derive(Clone, Copy, Debug, PartialEq, Eq)]
 pub struct Received {
     pub answer: Result<Answer, Refusal>,
     pub receiver: Receiver,
 }
 
-// A receiver with nothing opened.
+// A receiver with nothing opened. By a name, which the calls' document has, and not by `Default`.
 pub fn fresh() -> Receiver
     ensures { result ≡ fresh_receiver }
 {
@@ -75,6 +80,7 @@ pub fn receive(own: u32, m: &[u8], mut receiver: Receiver, segments: &mut [u8; 1
 }
 
 // The call, which leaves the receiver as it will be; a refused one leaves it and the places as they were.
+#[tactic(auto, using(crate::proofs::Effects::advancing), unfolding(crate::specs::Receiving::receiving_outcome, crate::specs::Receiving::receiver_after, crate::specs::Receiving::segments_after, crate::specs::Receiving::call_effect, crate::specs::Receiving::own_effect))]
 fn advance(
     own: u32,
     m: &[u8],
@@ -96,23 +102,13 @@ fn advance(
     })
 }
 
-// What an interrogation does: nothing unless it is read as the own address.
+// What an interrogation does: it is refused, changes nothing, or stores its segment and leaves this receiver. It does nothing
+// unless it is read as the own address and of this format.
+#[tactic(auto, unfolding(crate::specs::Receiving::own_effect, crate::specs::Receiving::effect_of))]
 fn effect(reception: Reception, m: &[u8], receiver: Receiver) -> Result<Option<Receiver>, Refusal>
     ensures { result ≡ cond (is_own (answered reception)) (own_effect m.now receiver) (Ok None) }
 {
-    match reception {
-        Reception::Own => own_effect(m, receiver),
-        Reception::AllCall | Reception::Broadcast | Reception::NotOurs(_) => Ok(None),
-    }
-}
-
-// What one that is read as the own address does: it is refused, changes nothing, or stores its segment and leaves
-// this receiver. In another format it does nothing.
-#[tactic(auto, unfolding(crate::specs::Receiving::own_effect, crate::specs::Receiving::effect_of))]
-fn own_effect(m: &[u8], receiver: Receiver) -> Result<Option<Receiver>, Refusal>
-    ensures { result ≡ own_effect m.now receiver }
-{
-    if !control::is_extended(m) {
+    if reception != Reception::Own || !control::is_extended(m) {
         return Ok(None);
     }
     let number = control::segment_number(m);
@@ -148,6 +144,7 @@ fn adding(number: Number, receiver: Receiver) -> Result<Option<Receiver>, Refusa
 }
 
 // The segment of a message goes to the place of its number.
+#[tactic(auto, using(crate::proofs::Places::put_segment))]
 fn store(m: &[u8], segments: &mut [u8; 160])
     requires { length m.now ≡ 14 }
     ensures { segments.new ≡ stored (segment_number m.now) (segment m.now) segments.old }

@@ -1,9 +1,9 @@
 -- What a call answers: the outcomes by their tests, in the order of the table, and what an answer was given for.
-use mathlib.Core.Path.{◌≡◌, refl, sym, ap, ap₂, ◌∙◌}
+use mathlib.Core.Path.{◌≡◌, refl, ap, ap₂, ◌∙◌}
 use mathlib.Core.Logic.{◌↔◌, ◌⊎◌, inl, inr}
 use mathlib.Core.Bool.{Bool, true, false, ◌&&◌, and-false}
 use mathlib.Core.List.{List}
-use Prim.Native.Nat.{ℕ, ◌*◌, ◌/◌, ◌%◌, ◌^◌, ◌<◌, ◌≤◌}
+use Prim.Native.Nat.{ℕ, ◌*◌, ◌/◌, ◌%◌, ◌<◌, ◌≤◌}
 use native.Mathlib.Omega.{arith}
 use lib.Dec.{eqb, leb}
 use lib.ListN.{length}
@@ -13,16 +13,11 @@ use Rattle.outcome.specs.declared.Refusal.{Refusal}
 use Rattle.outcome.specs.Outcomes.{Outcome, value, done, unless}
 use Rattle.outcome.specs.Outcomes.Outcome.{refusal}
 use Rattle.outcome.specs.Refusals.{word_too_large, not_sendable}
-use Rattle.outcome.proofs.Laws.{never, both, passed, passed_value, unless-answer, same-value, passed_row, refused_row, left_of, said_by_injective, refusal_is_no_answer}
+use Rattle.outcome.proofs.Laws.{never, both, passed, passed_value, same-value, passed_row, left_of, said_by_injective, refusal_is_no_answer}
 use Rattle.message.specs.Message.{is_word}
-use Rattle.message.proofs.Laws.{word_lt}
 use Rattle.uplink_elm_sending.specs.Sending.{transmissions, segment_count, last_numbers, round_numbers, is_round_size, is_segmented, is_room, said, last_outcome, round_outcome, last_after, opening_after, exchange_after, round_after}
 
 -- ---- the tests
-
-pub round_size_lem : (s : ℕ) → is_round_size s ≡ true → (1 ≤ s) × (s ≤ 16)
-unfolding is_round_size
-round_size_lem s e = let t = both (leb 1 s) (leb s 16) e in (leb-true 1 s t.0, leb-true s 16 t.1)
 
 pub is_segmented_lem : (n : ℕ) → 2 ≤ n → n ≤ 16 → is_segmented (n * 10) ≡ true
 unfolding is_segmented
@@ -72,10 +67,6 @@ pub no_room : (bytes : ℕ) (numbers : List ℕ) → (is_room bytes numbers ≡ 
 unfolding is_room
 no_room bytes numbers = (eqb-false bytes (length numbers * 14), ne_eqb bytes (length numbers * 14))
 
-pub count_is : (bytes : ℕ) → bytes / 10 ≡ segment_count bytes
-unfolding segment_count
-count_is bytes = refl
-
 -- ---- the opening and the exchange
 
 module _ (address bytes room : ℕ) where
@@ -83,16 +74,6 @@ module _ (address bytes room : ℕ) where
     pub last-sent : is_segmented bytes ≡ true → room ≡ 14 → value 1 ≡ last_outcome address bytes room
     unfolding last_outcome is_room last_numbers
     last-sent e h = passed (is_word address) word_too_large _ _ word (passed (is_segmented bytes) not_sendable _ _ e (passed_value (eqb room 14) not_sendable 1 1 (eq-eqb room 14 h) refl))
-
--- what it was given where it was answered
-pub last_given : (address bytes room n : ℕ) → last_outcome address bytes room ≡ value n
-    → (address < 2 ^ 24) × (is_segmented bytes ≡ true) × (room ≡ 14)
-unfolding last_outcome is_room last_numbers
-last_given address bytes room n e =
-    let first = unless-answer (is_word address) word_too_large _ 0 _ e in
-    let second = unless-answer (is_segmented bytes) not_sendable _ 0 _ first.1 in
-    let third = unless-answer (eqb room 14) not_sendable _ 0 _ second.1 in
-    (word_lt address first.0, second.0, eqb-true room 14 third.0)
 
 -- ---- the round
 
@@ -112,28 +93,11 @@ module _ (address bytes acknowledgement s room : ℕ) where
         before-room o h =
             passed (is_word address) word_too_large _ _ word (passed (is_round_size s) not_sendable _ _ size (passed (is_segmented bytes) not_sendable _ _ e h))
 
-        pub round-no-room : (r : ℕ) → refusal r ≡ unless (eqb room (n * 14)) not_sendable done → refusal r ≡ round_outcome address bytes acknowledgement s room
-        unfolding numbers
-        round-no-room r h = before-room (refusal r) (refused_row (eqb room (n * 14)) _ not_sendable r _ h same-room)
-
         pub round-sent : done ≡ unless (eqb room (n * 14)) not_sendable done → value n ≡ round_outcome address bytes acknowledgement s room
         unfolding numbers
         round-sent h =
             before-room (value n)
             (passed_value _ not_sendable n (length numbers) (passed_row (eqb room (n * 14)) _ not_sendable h same-room) g)
-
-pub round_given : (address bytes acknowledgement s room n : ℕ) → round_outcome address bytes acknowledgement s room ≡ value n
-    → (address < 2 ^ 24) × (is_round_size s ≡ true) × (is_segmented bytes ≡ true)
-    × (n ≡ length (round_numbers acknowledgement (segment_count bytes) s)) × (room ≡ n * 14)
-unfolding round_outcome is_room
-round_given address bytes acknowledgement s room n e =
-    let numbers : List ℕ = round_numbers acknowledgement (segment_count bytes) s in
-    let first = unless-answer (is_word address) word_too_large _ 0 _ e in
-    let second = unless-answer (is_round_size s) not_sendable _ 0 _ first.1 in
-    let third = unless-answer (is_segmented bytes) not_sendable _ 0 _ second.1 in
-    let fourth = unless-answer (eqb room (length numbers * 14)) not_sendable _ 0 _ third.1 in
-    let is : length numbers ≡ n = same-value fourth.1 in
-    (word_lt address first.0, second.0, third.0, sym is, eqb-true room (length numbers * 14) fourth.0 ∙ ap (λ (k : ℕ). k * 14) is)
 
 -- ---- what a call leaves
 

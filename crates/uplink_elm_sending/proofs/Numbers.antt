@@ -1,7 +1,7 @@
 -- The numbers that a round transmits. The idea: a list of the numbers that fail a test is empty, or begins with one of them and goes on
 -- with those behind it (`begins`); so a round goes on from number to number.
-use mathlib.Core.Path.{◌≡◌, refl, sym, ap, ap₂, ◌∙◌, subst}
-use mathlib.Core.Bool.{Bool, true, false, cond, not}
+use mathlib.Core.Path.{◌≡◌, refl, sym, ap, ap₂, ◌∙◌}
+use mathlib.Core.Bool.{Bool, true, false, cond}
 use mathlib.Core.Logic.{◌⊎◌, inl, inr}
 use mathlib.Core.List.{List, [], ◌∷◌}
 use Prim.Native.Nat.{ℕ, zero, suc, ◌+◌, ◌-◌, ◌<◌, ◌≤◌}
@@ -11,8 +11,6 @@ use lib.ListN.{length}
 use Rattle.uplink_elm_sending.specs.Sending.{failing, unacknowledged, taken, round_numbers}
 use Rattle.std.specs.Prelude.{Option, Some, None, IsSome, slice_get}
 use Rattle.std.specs.Option.{option_or}
-use Rattle.std.specs.List.{find, range_with_len}
-use Rattle.std.proofs.lemmas.Option.{same_Some}
 use Rattle.uplink_elm_sending.specs.Choosing.{lowest_from, next_from}
 use Rattle.uplink_elm.specs.Segments.{is_held}
 
@@ -49,22 +47,31 @@ module _ (f : ℕ → Bool) where
       by true e (inr (n, ge, lt, fails, p)) = inr (n, omega arith, lt, fails, failing-past from k e ∙ p)
       by false e p = inr (from, omega arith, omega arith, e, failing-here from k e ∙ ap (λ (j : ℕ). from ∷ failing f (suc from) j) left)
 
-  -- ---- the lowest of them, which an iterator finds
+-- ---- the lowest of them, number by number
 
-  pub find-failing : (from k : ℕ) → find (λ n. not (f n)) (range_with_len from k) ≡ slice_get (failing f from k) 0
-  unfolding failing
-  find-failing from zero = refl
-  find-failing from (suc k) =
-      let next : suc from ≡ from + 1 = omega arith in
-      let rest : find (λ n. not (f n)) (range_with_len (from + 1) k) ≡ slice_get (failing f (suc from) k) 0 =
-      find-failing (from + 1) k ∙ ap (λ (j : ℕ). slice_get (failing f j k) 0) (sym next) in
-      by (f from) rest
-    where
-      by : (t : Bool) → find (λ n. not (f n)) (range_with_len (from + 1) k) ≡ slice_get (failing f (suc from) k) 0
-          → cond (not t) (Some from) (find (λ n. not (f n)) (range_with_len (from + 1) k))
-          ≡ slice_get (cond t (failing f (suc from) k) (from ∷ failing f (suc from) k)) 0
-      by true e = e
-      by false e = refl
+pub lowest_here : (acknowledgement count n : ℕ) → n < count → is_held acknowledgement n ≡ false → lowest_from (is_held acknowledgement) count n ≡ Some n
+unfolding lowest_from
+lowest_here a count n h e =
+    let more : count - n ≡ suc (count - suc n) = omega arith in
+    ap (λ (k : ℕ). slice_get (failing (is_held a) n k) 0) more ∙ ap (λ (l : List ℕ). slice_get l 0) (failing-here (is_held a) n (count - suc n) e)
+
+pub lowest_past : (acknowledgement count n : ℕ) → n < count → is_held acknowledgement n ≡ true
+    → lowest_from (is_held acknowledgement) count n ≡ lowest_from (is_held acknowledgement) count (n + 1)
+unfolding lowest_from
+lowest_past a count n h e =
+    let more : count - n ≡ suc (count - suc n) = omega arith in
+    let next : suc n ≡ n + 1 = omega arith in
+    ap (λ (k : ℕ). slice_get (failing (is_held a) n k) 0) more ∙ ap (λ (l : List ℕ). slice_get l 0) (failing-past (is_held a) n (count - suc n) e)
+    ∙ ap (λ (k : ℕ). slice_get (failing (is_held a) k (count - k)) 0) next
+
+pub lowest_none : (acknowledgement count n : ℕ) → count ≤ n → lowest_from (is_held acknowledgement) count n ≡ None
+unfolding lowest_from
+lowest_none a count n h =
+    let none : count - n ≡ 0 = omega arith in
+    ap (λ (k : ℕ). slice_get (failing (is_held a) n k) 0) none ∙ ap (λ (l : List ℕ). slice_get l 0) (failing-none (is_held a) n)
+
+-- what the search for a number needs
+pub ruleset looking = (lowest_here, lowest_past, lowest_none)
 
 -- ---- s of them
 
@@ -170,9 +177,9 @@ pub round_is : (acknowledgement count s : ℕ)
 unfolding round_numbers unacknowledged
 round_is a count s = ap (λ (k : ℕ). taken (failing (is_held a) 0 count) (failing (is_held a) 0 k) s) (sym (sub-zero count))
 
-pub round-le : (acknowledgement count s : ℕ) → length (round_numbers acknowledgement count s) ≤ s
+pub round_le : (acknowledgement count s : ℕ) → length (round_numbers acknowledgement count s) ≤ s
 unfolding round_numbers
-round-le a count s = taken-le _ _ s
+round_le a count s = taken-le _ _ s
 
 -- a round of as many as another has is that one
 pub round_again : (acknowledgement count s n : ℕ) → n ≡ length (round_numbers acknowledgement count s)
@@ -184,51 +191,49 @@ round_again a count s n e = by (failing (is_held a) 0 count) e
     by [] h = taken_none n ∙ sym (taken_none s)
     by (k ∷ l) h = ap (taken (k ∷ l) (k ∷ l)) (h ∙ taken-length (k ∷ l) (k ∷ l) s (omega arith))
 
--- one more transmission of a round
-pub round-goes-on : (acknowledgement count n from i : ℕ) → from ≤ count → i < n → length (round_numbers acknowledgement count n) ≡ n
-    → (k : ℕ) × Next (is_held acknowledgement) count from (n - (i + 1)) k
-round-goes-on a count n from i le lt long =
-    next-taken (is_held a) count from (n - (i + 1)) le (round-has a count n (omega (arith, long, lt)))
+-- with its own length named
+pub as_many : (acknowledgement count s : ℕ) → round_numbers acknowledgement count (length (round_numbers acknowledgement count s)) ≡ round_numbers acknowledgement count s
+as_many a count s = round_again a count s _ refl
 
-pub next-some : (acknowledgement count n from i : ℕ) → from ≤ count → i < n → length (round_numbers acknowledgement count n) ≡ n
-    → (r : Option ℕ) → r ≡ next_from (is_held acknowledgement) count from → IsSome r
+-- what the call of a round needs
+pub ruleset rounding = (round_le, as_many)
+
+-- the k numbers of a round that are left, from `from` on
+unfoldable pub left_of_round : (ℕ → Bool) → ℕ → ℕ → ℕ → List ℕ
+left_of_round f count from k = taken (failing f 0 count) (failing f from (count - from)) k
+
+-- what is left of a round, by the next number
+abbrev goes_on : (ℕ → Bool) → ℕ → ℕ → Option ℕ → List ℕ
+goes_on f count k None = []
+goes_on f count k (Some j) = j ∷ left_of_round f count (j + 1) k
+
+pub left_at_start : (acknowledgement count n : ℕ) → left_of_round (is_held acknowledgement) count 0 n ≡ round_numbers acknowledgement count n
+unfolding left_of_round
+left_at_start a count n = sym (round_is a count n)
+
+pub left_at_end : (acknowledgement count from k : ℕ) → k ≡ 0 → left_of_round (is_held acknowledgement) count from k ≡ []
+unfolding left_of_round
+left_at_end a count from k none = ap (taken _ _) none ∙ taken_over _ _
+
+pub left_next : (acknowledgement count n from k : ℕ) → from ≤ count → 0 < k → k ≤ n → length (round_numbers acknowledgement count n) ≡ n
+    → left_of_round (is_held acknowledgement) count from k ≡ goes_on (is_held acknowledgement) count (k - 1) (next_from (is_held acknowledgement) count from)
+unfolding left_of_round Next
+left_next a count n from k le some few long =
+    let t = next-taken (is_held a) count from (k - 1) le (round-has a count n (omega (arith, long))) in
+    let more : k ≡ suc (k - 1) = omega arith in
+    let next : suc t.0 ≡ t.0 + 1 = omega arith in
+    ap (taken (failing (is_held a) 0 count) (failing (is_held a) from (count - from))) more ∙ t.1.2
+    ∙ ap (λ (j : ℕ). t.0 ∷ taken (failing (is_held a) 0 count) (failing (is_held a) j (count - j)) (k - 1)) next
+    ∙ sym (ap (goes_on (is_held a) count (k - 1)) t.1.0)
+
+pub next_some : (acknowledgement count n from : ℕ) → from ≤ count → 0 < n → length (round_numbers acknowledgement count n) ≡ n → IsSome (next_from (is_held acknowledgement) count from)
 unfolding Next
-next-some a count n from i le lt long r e = by r (e ∙ (round-goes-on a count n from i le lt long).1.0)
-  where
-    by : {k : ℕ} (r : Option ℕ) → r ≡ Some k → IsSome r
-    by None h = absurd (cc)
-    by (Some j) h = refl
+next_some a count n from le some long =
+    let t = next-taken (is_held a) count from 0 le (round-has a count n (omega (arith, long))) in
+    rw t.1.0 refl
 
-pub round-step : (acknowledgement count n from i k : ℕ) → from ≤ count → i < n → length (round_numbers acknowledgement count n) ≡ n
-    → Some k ≡ next_from (is_held acknowledgement) count from
-    → (k < count)
-    × (taken (failing (is_held acknowledgement) 0 count) (failing (is_held acknowledgement) from (count - from)) (n - i)
-    ≡ k ∷ taken (failing (is_held acknowledgement) 0 count) (failing (is_held acknowledgement) (k + 1) (count - (k + 1))) (n - (i + 1)))
-unfolding Next
-round-step a count n from i k le lt long e =
-    subst Step same (
-      step.1.1,
-      ap (taken whole (failing (is_held a) from (count - from))) more ∙ step.1.2
-          ∙ ap (λ (j : ℕ). step.0 ∷ taken whole (failing (is_held a) j (count - j)) (n - (i + 1))) next,
-    )
-  where
-    whole : List ℕ
-    whole = failing (is_held a) 0 count
-
-    Step : ℕ → Type 0
-    Step k = (k < count) × (taken whole (failing (is_held a) from (count - from)) (n - i) ≡ k ∷ taken whole (failing (is_held a) (k + 1) (count - (k + 1))) (n - (i + 1)))
-
-    step : (j : ℕ) × Next (is_held a) count from (n - (i + 1)) j
-    step = round-goes-on a count n from i le lt long
-
-    more : n - i ≡ suc (n - (i + 1))
-    more = omega arith
-
-    next : suc step.0 ≡ step.0 + 1
-    next = omega arith
-
-    same : step.0 ≡ k
-    same = same_Some step.0 k (sym step.1.0 ∙ sym e)
+-- what the loop of a round needs
+pub ruleset going_on = (left_at_start, left_at_end, left_next, next_some)
 
 pub round_by_test : (acknowledgement count s : ℕ)
     → round_numbers acknowledgement count s ≡ taken (failing (is_held acknowledgement) 0 count) (failing (is_held acknowledgement) 0 count) s

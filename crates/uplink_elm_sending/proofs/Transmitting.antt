@@ -23,7 +23,8 @@ use Rattle.uplink_elm.specs.declared.control.Control.{Control}
 use Rattle.uplink_elm.specs.declared.control.Control.TheVariants.{Opening, Round, Exchange}
 use Rattle.uplink_elm.specs.Segments.{is_extended, reply_control, segment_number, segment, segment_at}
 use Rattle.uplink_elm.proofs.Laws.{segment-at, segment-at-length, segment_of, parts_of}
-use Rattle.uplink_elm_sending.specs.Sending.{unsealed, transmission, transmissions, segment_count, last_numbers}
+use Rattle.uplink_elm_sending.specs.Choosing.{begun}
+use Rattle.uplink_elm_sending.specs.Sending.{unsealed, transmission, transmissions}
 
 -- ---- one transmission
 
@@ -88,97 +89,79 @@ module _ (control n : ℕ) (s : List ℕ) (ten : length s ≡ 10) where
 -- ---- as it is written to a buffer
 
 -- the first byte set, and ten bytes copied behind it
-put-field : (control n : ℕ) (s : List ℕ) (ten : length s ≡ 10) (out ys : List ℕ) → length out ≡ 14 → ys ≡ s
-    → put_mid 1 10 (set out 0 (192 + 16 * control + n)) ys ≡ with_field control n s ten (drop 11 out)
-unfolding with_field
-put-field control n s ten [] ys h e = absurd (omega arith)
-put-field control n s ten (x ∷ out) ys h e =
-    ap₂ (λ (a b : List ℕ). (192 + 16 * control + n) ∷ (a ++ b)) e (Post-is 1 11 ((192 + 16 * control + n) ∷ out) (omega arith))
+pub put_field : (first : ℕ) (s out : List ℕ) → length out ≡ 14 → put_mid 1 10 (set out 0 first) s ≡ first ∷ (s ++ drop 11 out)
+put_field first s [] h = absurd (omega arith)
+put_field first s (x ∷ out) h = ap (λ (l : List ℕ). first ∷ (s ++ l)) (Post-is 1 11 (first ∷ out) (omega arith))
 
-module _ (control n address : ℕ) (segments : List ℕ) (hc : control < 3) (hn : n < 16) (ha : address < 2 ^ 24) (fits : n * 10 + 10 ≤ length segments) where
-  ten : length (segment_at segments n) ≡ 10
-  ten = segment-at-length segments n fits
+-- each use of a segment has an RC below 4
+pub number_lt : (c : Control) → number_of c < 4
+number_lt Opening = omega arith
+number_lt Round = omega arith
+number_lt Exchange = omega arith
 
-  module _ (out ys : List ℕ) (from to : ℕ) (long : length out ≡ 14) (ef : from ≡ n * 10) (et : to ≡ from + 10)
-      (ey : ys ≡ take (to - from) (drop from segments)) where
-    -- what comes back from the copy
-    field-put : put_mid 1 10 (set out 0 (192 + 16 * control + n)) ys ≡ with_field control n (segment_at segments n) ten (drop 11 out)
-    field-put = put-field control n (segment_at segments n) ten out ys long (ey ∙ is)
-      where
-        size : to - from ≡ 10
-        size = omega arith
+-- the seal of such a buffer is not refused, and leaves the transmission
+module _ (k n address : ℕ) (s buffer : List ℕ) (ten : length s ≡ 10) (long : length buffer ≡ 14) (hk : k < 4) (hn : n < 16) (ha : address < 2 ^ 24) where
+  behind : length (drop 11 buffer) ≡ 3
+  behind = length-drop 11 buffer ∙ omega (arith, long)
 
-        is : take (to - from) (drop from segments) ≡ segment_at segments n
-        is = ap₂ (λ (x y : ℕ). take x (drop y segments)) size ef ∙ sym (segment-at segments n)
+  pub begun_passes : seal_outcome (begun k n s buffer) address ≡ done
+  unfolding begun with_field
+  begun_passes = sealable (begun k n s buffer) address k n ha hk hn (long-with k n s ten (drop 11 buffer) behind) refl
 
-    three : length (drop 11 out) ≡ 3
-    three = length-drop 11 out ∙ omega (arith, long)
-
-    -- the seal is not refused
-    pub seals : seal_outcome (put_mid 1 10 (set out 0 (192 + 16 * control + n)) ys) address ≡ done
-    unfolding with_field
-    seals =
-        ap (λ (m : List ℕ). seal_outcome m address) field-put
-        ∙ sealable (with_field control n (segment_at segments n) ten (drop 11 out)) address control n ha (omega arith) hn
-        (long-with control n (segment_at segments n) ten (drop 11 out) three) refl
-
-    -- and what it makes of it
-    pub transmitted : (sealed : List ℕ) → sealed ≡ interrogation_after (put_mid 1 10 (set out 0 (192 + 16 * control + n)) ys) address
-        → sealed ≡ transmission address control n (segment_at segments n)
-    transmitted sealed es =
-        es ∙ ap (λ (m : List ℕ). interrogation_after m address) field-put
-        ∙ sealed-with control n (segment_at segments n) ten address ha (omega arith) hn (drop 11 out) three
-
--- each use of a segment has an RC below 3
-pub number-lt : (c : Control) → number_of c < 3
-number-lt Opening = omega arith
-number-lt Round = omega arith
-number-lt Exchange = omega arith
+  pub begun_leaves : interrogation_after (begun k n s buffer) address ≡ transmission address k n s
+  unfolding begun with_field
+  begun_leaves = sealed-with k n s ten address ha hk hn (drop 11 buffer) behind
 
 -- a call that is done is not refused
 pub done_is_ok : (r : Result Unit Refusal) → admission r ≡ done → IsOk r
 done_is_ok (Ok u) e = refl
 done_is_ok (Err f) e = absurd (refusal_is_no_answer e)
 
+-- what the writer of a transmission needs
+pub ruleset transmitting = (done_is_ok, number_lt, begun_passes, begun_leaves)
+
+-- the segment that it is written with
+pub part : (segments : List ℕ) (n from : ℕ) → from ≡ n * 10 → take (from + 10 - from) (drop from segments) ≡ segment_at segments n
+part segments n from e =
+    let size : from + 10 - from ≡ 10 = omega arith in
+    ap₂ (λ (x y : ℕ). take x (drop y segments)) size e ∙ sym (segment-at segments n)
+
+pub ruleset parting = (part, segment-at-length)
+
 -- ---- several
 
-pub transmissions-one : (address control : ℕ) (segments : List ℕ) (n : ℕ)
+pub transmissions_one : (address control : ℕ) (segments : List ℕ) (n : ℕ)
     → transmissions address control segments (n ∷ []) ≡ transmission address control n (segment_at segments n)
 unfolding transmissions
-transmissions-one address control segments n = append-nil (transmission address control n (segment_at segments n))
+transmissions_one address control segments n = append-nil (transmission address control n (segment_at segments n))
 
--- the last segment alone, of so many bytes
-pub transmissions_last : (address control : ℕ) (segments : List ℕ) (bytes : ℕ)
-    → transmissions address control segments (last_numbers (segment_count bytes)) ≡ transmission address control (bytes / 10 - 1) (segment_at segments (bytes / 10 - 1))
-unfolding last_numbers segment_count
-transmissions_last address control segments bytes = transmissions-one address control segments (bytes / 10 - 1)
-
--- the bytes written, and those that are left to write
-pub next-written : (address control : ℕ) (segments : List ℕ) (n : ℕ) (ns out ys total : List ℕ) (i at end : ℕ)
-    → at ≡ i * 14 → end ≡ at + 14 → end ≤ length out → length ys ≡ 14 → ys ≡ transmission address control n (segment_at segments n)
-    → take (i * 14) out ++ transmissions address control segments (n ∷ ns) ≡ total
-    → take ((i + 1) * 14) (put_mid at (end - at) out ys) ++ transmissions address control segments ns ≡ total
+-- the first of several
+pub transmissions_first : (address control : ℕ) (segments : List ℕ) (n : ℕ) (ns : List ℕ)
+    → transmissions address control segments (n ∷ ns) ≡ transmission address control n (segment_at segments n) ++ transmissions address control segments ns
 unfolding transmissions
-next-written address control segments n ns out ys total i at end ea ee fits fourteen is e =
-    ap (λ (l : List ℕ). l ++ transmissions address control segments ns) front
-    ∙ append_assoc (take (i * 14) out) ys (transmissions address control segments ns)
-    ∙ ap (λ (l : List ℕ). take (i * 14) out ++ (l ++ transmissions address control segments ns)) is ∙ e
+transmissions_first address control segments n ns = refl
+
+-- the bytes written, with one more; and all of them
+pub one_written : (i : ℕ) (out ys rest : List ℕ) → i * 14 + 14 ≤ length out → length ys ≡ 14
+    → take ((i + 1) * 14) (put_mid (i * 14) (i * 14 + 14 - i * 14) out ys) ++ rest ≡ take (i * 14) out ++ (ys ++ rest)
+one_written i out ys rest fits fourteen = ap (λ (l : List ℕ). l ++ rest) front ∙ append_assoc (take (i * 14) out) ys rest
   where
-    before : length (take at out) ≡ at
-    before = length-take-le at out (omega arith)
+    before : length (take (i * 14) out) ≡ i * 14
+    before = length-take-le (i * 14) out (omega arith)
 
-    more : length (take at out ++ ys) ≡ (i + 1) * 14
-    more = length-append (take at out) ys ∙ omega (arith, before, fourteen)
+    more : length (take (i * 14) out ++ ys) ≡ (i + 1) * 14
+    more = length-append (take (i * 14) out) ys ∙ omega (arith, before, fourteen)
 
-    front : take ((i + 1) * 14) (put_mid at (end - at) out ys) ≡ take (i * 14) out ++ ys
+    front : take ((i + 1) * 14) (put_mid (i * 14) (i * 14 + 14 - i * 14) out ys) ≡ take (i * 14) out ++ ys
     front =
-        ap (λ (l : List ℕ). take ((i + 1) * 14) (take at out ++ (ys ++ l))) (Post-is at end out (omega arith))
-        ∙ ap (take ((i + 1) * 14)) (sym (append_assoc (take at out) ys (drop end out)))
-        ∙ take_at (take at out ++ ys) (drop end out) ((i + 1) * 14) more ∙ ap (λ (k : ℕ). take k out ++ ys) ea
+        ap (λ (l : List ℕ). take ((i + 1) * 14) (take (i * 14) out ++ (ys ++ l))) (Post-is (i * 14) (i * 14 + 14) out (omega arith))
+        ∙ ap (take ((i + 1) * 14)) (sym (append_assoc (take (i * 14) out) ys (drop (i * 14 + 14) out)))
+        ∙ take_at (take (i * 14) out ++ ys) (drop (i * 14 + 14) out) ((i + 1) * 14) more
 
--- all are written
-pub all-written : (address control : ℕ) (segments out total : List ℕ) (i n : ℕ) → n ≤ i → length out ≡ n * 14
-    → take (i * 14) out ++ transmissions address control segments [] ≡ total → out ≡ total
+pub all_written : (address control : ℕ) (segments ns out : List ℕ) (k : ℕ) → ns ≡ [] → length out ≤ k → take k out ++ transmissions address control segments ns ≡ out
 unfolding transmissions
-all-written address control segments out total i n le long e =
-    sym (take_all (i * 14) out (omega arith)) ∙ sym (append-nil (take (i * 14) out)) ∙ e
+all_written address control segments ns out k none le =
+    ap (λ (l : List ℕ). take k out ++ transmissions address control segments l) none ∙ append-nil (take k out) ∙ take_all k out le
+
+-- what the writer of a round needs
+pub ruleset writing_round = (transmissions_first, one_written, all_written)

@@ -13,7 +13,7 @@ use Rattle.message.proofs.Laws.{lt-word}
 use Rattle.uplink_elm.specs.Segments.{segment_at}
 use Rattle.uplink_elm_sending.specs.Sending.{transmission, transmissions, segment_count, last_numbers, round_numbers, is_round_size, is_segmented, round_outcome, last_after, opening_after, exchange_after, round_after}
 use Rattle.uplink_elm_sending.proofs.Answering.{is_segmented_lem, last-sent, last-after, round-sent, round-after}
-use Rattle.uplink_elm_sending.proofs.Transmitting.{transmissions-one}
+use Rattle.uplink_elm_sending.proofs.Transmitting.{transmissions_one}
 
 is_round_size_lem : (s : ℕ) → 1 ≤ s → s ≤ 16 → is_round_size s ≡ true
 unfolding is_round_size
@@ -32,7 +32,7 @@ module _ (address : ℕ) (segments : List ℕ) (ha : address < 2 ^ 24) (e : leng
   unfolding last_numbers n
   last_written control buffer room =
       last-after control address segments buffer 1 (sym (last-sent address (length segments) (length buffer) (lt-word address ha) segmented-so room))
-      ∙ transmissions-one address control segments (n - 1)
+      ∙ transmissions_one address control segments (n - 1)
 
   pub opening-written : (buffer : List ℕ) → length buffer ≡ 14
       → opening_after address segments buffer ≡ transmission address 0 (segment_count (length segments) - 1) (segment_at segments (segment_count (length segments) - 1))

@@ -1,3 +1,4 @@
+-- Tried without: the check does not find what the closure answers at each place, nor with the laws of the search named.
 use Rattle.std.proofs.Common.{rules, take}
 use Rattle.std.proofs.lemmas.List.Sorted.{IsPartitionPoint-from_clause}
 use Rattle.rollcall_table.proofs.Laws.{is_low, searchable, search-is}
