@@ -26,11 +26,9 @@ pub(crate) fn bytes<W: Write>(to: &mut W, m: &[u8]) -> io::Result<()> {
     let mut digits = [0u8; 64];
     let mut output = Output::new(&mut digits);
     output.put_hex(m);
-    let taken = output.taken;
-    match digits.get(..taken) {
-        Some([]) => write!(to, " -"),
-        Some(text) => column(to, text),
-        None => Ok(()),
+    match output.bytes() {
+        [] => write!(to, " -"),
+        text => column(to, text),
     }
 }
 

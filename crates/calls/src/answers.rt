@@ -1,4 +1,5 @@
-// The columns of an answer, each with a space in front of it.
+// The columns of an answer, each with a space in front of it. They are not printed by `write!`: what a method of `Output`
+// appends is proved, and of what a formatter writes no contract says anything.
 use altitude::Writing;
 use altitude_code::Decoded;
 use antennas::Antenna;
@@ -9,7 +10,8 @@ use transponder::Reception;
 
 // What a call answers where it is not refused.
 pub(crate) trait Columns {
-    // Appends the answer, its value and the message `m` after the call, where the answer has it.
+    // Appends the answer, its value and the message `m` after the call, where the answer has it. Message and output stay two
+    // parameters: they are lent from two buffers, and most answers print no message.
     fn put(self, m: &[u8], out: &mut Output<'_>);
 }
 

@@ -1,6 +1,6 @@
 // The calls by their names. A line without the form of a call is malformed.
 use crate::answers::put;
-use console::{bytes, number, word};
+use console::{bit, bytes, number, word};
 use text::Output;
 
 // Makes the call of a line and appends the columns of its answer.
@@ -13,9 +13,9 @@ pub(crate) fn answer(columns: &[&[u8]], out: &mut Output<'_>) {
 // Nothing is appended where the line is malformed.
 fn call(columns: &[&[u8]], out: &mut Output<'_>) -> Option<()> {
     match columns {
-        [b"register", register, bit] => {
+        [b"register", register, entering] => {
             put(
-                division::register_step(word(register)?, is_one(bit)?),
+                division::register_step(word(register)?, bit(entering)?),
                 b"",
                 out,
             );
@@ -66,15 +66,6 @@ fn call_on(name: &[u8], m: &mut [u8], arguments: &[&[u8]], out: &mut Output<'_>)
         _ => return None,
     }
     Some(())
-}
-
-// A bit is 0 or 1.
-fn is_one(s: &[u8]) -> Option<bool> {
-    match s {
-        b"0" => Some(false),
-        b"1" => Some(true),
-        _ => None,
-    }
 }
 
 // An optional `-` and 1 to 7 decimal digits.

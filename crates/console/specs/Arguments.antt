@@ -1,5 +1,5 @@
 -- The forms of the arguments of a line, and what they write.
-use Rattle.std.specs.Prelude.{ℕ, ◌/◌, ◌%◌, ◌^◌, List, [], ◌∷◌, Bool, false, Option, Some, None, cond, ◌&&◌, ◌||◌, ltb, leb, eqb, length}
+use Rattle.std.specs.Prelude.{ℕ, ◌/◌, ◌%◌, ◌^◌, List, [], ◌∷◌, Bool, false, true, Option, Some, None, cond, ◌&&◌, ◌||◌, ltb, leb, eqb, length}
 use Rattle.reading.specs.Digits.{all, is_hex_digit, is_decimal_digit, hex_number, decimal_number}
 
 -- 1 to 8 capital hexadecimal digits
@@ -23,3 +23,9 @@ is_byte_text s = is_dash s || (ltb 0 (length s) && eqb (length s % 2) 0 && all i
 -- the same of at most `most` bytes, two digits for each
 abbrev pub is_bytes : ℕ → List ℕ → Bool
 is_bytes most s = leb (length s / 2) most && is_byte_text s
+
+-- `0` or `1`
+abbrev pub bit_of : List ℕ → Option Bool
+bit_of [] = None
+bit_of (b ∷ []) = cond (eqb b 48) (Some false) (cond (eqb b 49) (Some true) None)
+bit_of (b ∷ c ∷ bs) = None

@@ -5,6 +5,6 @@ mod arguments;
 mod lines;
 mod streams;
 
-pub use arguments::{bytes, number, word};
+pub use arguments::{bit, bytes, number, word};
 pub use lines::columns;
-pub use streams::{Console, LIMIT};
+pub use streams::{Console, LIMIT, UNREAD, UNWRITTEN};

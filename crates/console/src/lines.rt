@@ -1,5 +1,5 @@
 // The lines of an input and their columns, and the answering of an input line by line.
-ghost use Rattle.std.specs.Prelude.{◌≡◌, ◌<◌, map, take, length, IsTrue, IfSome};
+ghost use Rattle.std.specs.Prelude.{◌≡◌, ◌<◌, map, take, length, OnOk, IfSome};
 ghost use Rattle.std.specs.Io.KnownBytes.{Appends};
 ghost use Rattle.text.specs.Ascii.{ascii};
 ghost use Rattle.reading.specs.Lines.{columns};
@@ -23,25 +23,25 @@ pub fn columns<'a>(line: &'a [u8]) -> ArrayVec<&'a [u8], 8>
 }
 
 impl<R: Read, W: Write, E: Write> Console<R, W, E> {
-    // Reads the input and writes for each line its number from 1, what `answer` appends for its columns, and a line feed; says
-    // whether all was read and written. An answered line has at most `longest` bytes. An input above the limit is too long, and
-    // that is all that is written.
+    // Reads the input and writes for each line its number from 1, what `answer` appends for its columns, and a line feed. An
+    // answered line has at most `longest` bytes. An input above the limit is too long, and that is all that is written. Of a
+    // shorter one the promise says nothing, since it knows nothing of `answer`.
     pub fn answer_lines<F: FnMut(&[&[u8]], &mut Output<'_>)>(
         &mut self,
         longest: usize,
         answer: F,
-    ) -> bool
+    ) -> io::Result<()>
         requires { F.IsAlwaysCallable answer }
-        ensures { IsTrue result → IfSome (R.remaining self.old.input) (λ xs. 65536 < length xs → Appends (W.contents self.old.output) (W.contents self.new.output) (ascii "too long\n")) }
+        ensures { OnOk result (IfSome (R.remaining self.old.input) (λ xs. 65536 < length xs → Appends (W.contents self.old.output) (W.contents self.new.output) (ascii "too long\n"))) }
     {
         let mut bytes = [0u8; 65537];
         let read = self.read(&mut bytes, "answered");
-        let written = if read.size <= LIMIT {
-            self.answer_input(&bytes[..read.size], longest, answer)
+        if read.size <= LIMIT {
+            self.answer_input(&bytes[..read.size], longest, answer)?;
         } else {
-            self.write(b"too long\n")
-        };
-        read.ended.is_ok() && written.is_ok()
+            self.write(b"too long\n")?;
+        }
+        read.ended
     }
 
     fn answer_input<F: FnMut(&[&[u8]], &mut Output<'_>)>(
@@ -54,6 +54,7 @@ impl<R: Read, W: Write, E: Write> Console<R, W, E> {
     {
         let mut buffer = [0u8; 65536];
         let mut out = Output::new(&mut buffer);
+        // a cast, since Rust has no From of a usize for a u64
         for (number, line) in (1..=LIMIT as u64).zip(Lines::new(input)) {
             out.put_decimal(number);
             answer(columns(line).as_slice(), &mut out);
@@ -67,10 +68,7 @@ impl<R: Read, W: Write, E: Write> Console<R, W, E> {
 
     // Writes what is taken of the output buffer.
     fn flush(&mut self, out: &mut Output<'_>) -> io::Result<()> {
-        let taken = out.taken;
-        if let Some(bytes) = out.buffer.get(..taken) {
-            self.write(bytes)?;
-        }
+        self.write(out.bytes())?;
         out.taken = 0;
         Ok(())
     }

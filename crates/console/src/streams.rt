@@ -7,6 +7,11 @@ use std::fmt::Display;
 use std::io;
 use std::io::{Read, Write};
 
+// What is said where a stream fails.
+pub const UNREAD: &str = "standard input could not be read to its end";
+
+pub const UNWRITTEN: &str = "standard output could not be written to its end";
+
 // The longest input that is taken has as many bytes.
 pub const LIMIT: usize = 65536;
 
@@ -31,7 +36,7 @@ impl<R: Read, W: Write, E: Write> Console<R, W, E> {
         if LIMIT < read.size {
             self.say_too_long(done);
         } else if read.ended.is_err() {
-            self.say(&"standard input could not be read to its end");
+            self.say(&UNREAD);
         }
         read
     }
@@ -41,9 +46,10 @@ impl<R: Read, W: Write, E: Write> Console<R, W, E> {
         ensures ok { OnOk result (Appends (W.contents self.old.output) (W.contents self.new.output) bytes.now) }
         ensures input { self.new.input ≡ self.old.input }
     {
+        // Not `inspect_err`: of a closure that borrows the console it is not proved that input and output stay.
         let written = self.output.write_all(bytes);
         if written.is_err() {
-            self.say(&"standard output could not be written to its end");
+            self.say(&UNWRITTEN);
         }
         written
     }
@@ -59,7 +65,7 @@ impl<R: Read, W: Write, E: Write> Console<R, W, E> {
         );
     }
 
-    // Whether standard error takes it can no longer be said anywhere.
+    // Whether standard error takes it can no longer be said anywhere; so nothing is promised of what it holds.
     pub fn say<D: Display>(&mut self, what: &D)
         ensures input { self.new.input ≡ self.old.input }
         ensures output { self.new.output ≡ self.old.output }

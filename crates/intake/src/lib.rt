@@ -10,7 +10,8 @@ ghost use Rattle.std.specs.Io.KnownBytes.{Consumes, IsAtEnd};
 use std::io;
 use std::io::Read;
 
-// How many bytes stand at the start of the buffer, and the error of the read that failed after them.
+// How many bytes stand at the start of the buffer, and the error of the read that failed after them. The size counts in both
+// cases, so it stands beside the `Result`, and not in it.
 #[derive(Debug, Drop)]
 pub struct Filled {
     pub size: usize,
@@ -24,6 +25,7 @@ pub fn read_full<R: Read>(input: &mut R, buf: &mut [u8]) -> Filled
     ensures end { OnOk result.ended (result.size < length buf.new → IsAtEnd (R.remaining input.new)) }
 {
     let mut size = 0;
+    // a read gives any number of bytes, so that nothing counts the turns for a `for`
     while size < buf.len() {
         match input.read(&mut buf[size..]) {
             Ok(0) => break,

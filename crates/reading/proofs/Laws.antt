@@ -7,3 +7,4 @@ pub use Rattle.reading.proofs.Values.{decimal-column, hex_number-whole, decimal_
 pub use Rattle.reading.proofs.Splitting.{column_steps}
 -- ---- end theorems, which no proof above cites
 pub use Rattle.reading.proofs.Values.{digit-value-lt}
+pub use Rattle.reading.proofs.Splitting.{next-line, line-within, line_taken}

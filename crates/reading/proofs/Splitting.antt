@@ -2,14 +2,15 @@
 use mathlib.Core.Path.{◌≡◌, refl, sym, ap, ap₂, ◌∙◌}
 use mathlib.Core.Bool.{Bool, true, false, cond}
 use mathlib.Core.List.{List, [], ◌∷◌, ◌++◌}
-use Prim.Native.Nat.{ℕ, suc, ◌+◌, ◌<◌, ◌≤◌}
+use Prim.Native.Nat.{ℕ, suc, ◌+◌, ◌-◌, ◌<◌, ◌≤◌}
 use native.Mathlib.Numerals.{add-one}
 use native.Mathlib.Omega.{arith}
-use lib.ListN.{length, take, drop}
-use lib.Seq.{take_all}
+use lib.ListN.{length, take, drop, length-drop}
+use lib.Seq.{take_all, length-take-le, drop-drop}
 use lib.Dec.{eqb, ltb}
 use borrow.Author.Tests.{ltb-true, ltb-false, eq-eqb, ne_eqb}
 use Rattle.text.specs.Ascii.{space, line_feed}
+use Rattle.outcome.proofs.Laws.{part_from}
 use Rattle.text.proofs.Laws.{no_more, picked, passed_over, above, above-parts}
 use Rattle.reading.specs.Lines.{in_first, lines, columns, before, behind}
 
@@ -244,3 +245,31 @@ pub length-le-lines_size : (ls : List (List ℕ)) → length ls ≤ lines_size l
 unfolding lines_size
 length-le-lines_size [] = omega arith
 length-le-lines_size (l ∷ ls) = omega (arith, length-le-lines_size ls)
+
+pub few_lines : (s : List ℕ) → length (lines s) ≤ length s + 1
+few_lines s = omega (arith, length-le-lines_size (lines s), lines_size-le s)
+
+-- ---- the lines of a text from a place on, when the search for the line feed in `&text[at..]` found the place k
+
+module _ (text : List ℕ) (at k : ℕ) (e : k ≡ length (before line_feed (take (length text - at) (drop at text)))) where
+  pub next-line : at < length text
+      → lines (drop at text) ≡ take k (take (length text - at) (drop at text)) ∷ lines (drop (at + k + 1) text)
+  next-line h =
+      let rest : List ℕ = drop at text in
+      let part : take (length text - at) rest ≡ rest = part_from at text in
+      let some : 0 < length rest = omega (arith, length-drop at text) in
+      let sum : at + (k + 1) ≡ at + k + 1 = omega arith in
+      split_line rest k (e ∙ ap (λ (l : List ℕ). length (before line_feed l)) part) some
+      ∙ ap (λ (l : List ℕ). take k l ∷ lines (drop (k + 1) rest)) (sym part)
+      ∙ ap (λ (l : List ℕ). take k (take (length text - at) rest) ∷ lines l)
+      (drop-drop (k + 1) at text ∙ ap (λ (j : ℕ). drop j text) sum)
+
+  -- the place found lies within the text
+  pub line-within : at < length text → at + k ≤ length text
+  line-within h =
+      omega (arith, before-le line_feed (take (length text - at) (drop at text)), ap length (part_from at text), length-drop at text)
+
+  pub line_taken : k ≡ length (take k (take (length text - at) (drop at text)))
+  line_taken =
+      let rest : List ℕ = take (length text - at) (drop at text) in
+      sym (length-take-le k rest (omega (arith, before-le line_feed rest)))

@@ -113,6 +113,9 @@ fold-number base v (d ∷ s) h =
     fold-number base ((v * base % 2 ^ 32 + digit_value d) % 2 ^ 32) s (omega arith)
     ∙ low_bits (2 ^ 32) base ((v * base % 2 ^ 32 + digit_value d) % 2 ^ 32) (v * base + digit_value d) s (omega arith)
 
+pub number_folded : (base : ℕ) (s : List ℕ) (r : ℕ) → r ≡ fold (λ v d. (v * base % 2 ^ 32 + digit_value d) % 2 ^ 32) 0 s → r ≡ number_after base 0 s % 2 ^ 32
+number_folded base s r e = e ∙ fold-number base 0 s (omega arith)
+
 -- a number of k digits in a base up to 16 is below 16^k
 number_bound : (base v b : ℕ) (s : List ℕ) → base ≤ 16 → v < b → number_after base v s < b * 16 ^ length s
 unfolding number_after

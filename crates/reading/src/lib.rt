@@ -14,4 +14,4 @@ pub use bytes::hex_bytes;
 pub use digits::{all_decimal, all_hex};
 pub use lines::Lines;
 pub use numbers::{decimal_number, hex_number};
-pub use pieces::{after, cut, find, split_once};
+pub use pieces::{after, cut, split_once};

@@ -1,5 +1,5 @@
 // The lines of a text, one after the other.
-ghost use Rattle.std.specs.Prelude.{◌≡◌};
+ghost use Rattle.std.specs.Prelude.{◌≡◌, ◌≤◌, ◌+◌, length};
 ghost use Rattle.std.specs.Iterator.{YieldsFirstBy, item_count};
 ghost use Rattle.reading.specs.Lines.{lines};
 
@@ -12,8 +12,11 @@ pub struct Lines<'a> {
 }
 
 impl<'a> Lines<'a> {
+    // The second promise holds of every text: with it a caller counts the lines without a proof.
+    #[tactic(auto, using(crate::proofs::Splitting::few_lines))]
     pub fn new(text: &'a [u8]) -> Lines<'a>
-        ensures { result.rest.now ≡ text.now }
+        ensures whole { result.rest.now ≡ text.now }
+        ensures count_bound { length (lines text.now) ≤ length text.now + 1 }
     {
         Lines { rest: text }
     }

@@ -4,7 +4,8 @@ ghost use Rattle.reading.specs.Digits.{number_after, hex_number, decimal_number}
 
 use crate::digits::digit_value;
 
-// The two public functions are two, and not one with the base as its parameter, since each has a definition of its own.
+// Two public functions of one line each: one with the base as its parameter would be no shorter where it is called, and could
+// not promise each number by a definition of its own.
 
 // The number of a text of hexadecimal digits, its low 32 bits: the whole number where there are at most 8 digits.
 #[tactic(auto, unfolding(crate::specs::Digits::hex_number))]
@@ -22,6 +23,7 @@ pub fn decimal_number(s: &[u8]) -> u32
     number_in(s, 10)
 }
 
+#[tactic(auto, using(crate::proofs::Values::number_folded))]
 fn number_in(s: &[u8], base: u32) -> u32
     ensures { result ≡ number_after base 0 s.now % 2 ^ 32 }
 {

@@ -5,7 +5,7 @@
 // something was said.
 #![tactic(auto)]
 
-use console::Console;
+use console::{Console, UNREAD, UNWRITTEN};
 use std::fmt;
 use std::io::{Read, Write};
 use stream::{Refused, State};
@@ -22,8 +22,8 @@ enum Failure {
 impl fmt::Display for Failure {
     fn fmt<W: fmt::Write>(&self, f: &mut fmt::Formatter<W>) -> fmt::Result {
         match self {
-            Failure::Unread => write!(f, "standard input could not be read to its end"),
-            Failure::Unwritten => write!(f, "standard output could not be written to its end"),
+            Failure::Unread => write!(f, "{UNREAD}"),
+            Failure::Unwritten => write!(f, "{UNWRITTEN}"),
             Failure::TooManyLines => write!(
                 f,
                 "9,223,372,036,854,775,808 lines have ended: what follows is not answered"

@@ -9,6 +9,7 @@ use request::Request;
 use text::Output;
 
 // The bytes and the numbers that the columns write.
+#[tactic(auto, using(crate::proofs::Texts::requested))]
 pub(crate) fn write_request(output: &mut Output<'_>, request: Request<'_>)
     requires { well_formed request.message.now request.confidence.now request.word.now request.limit.now ≡ true }
     ensures written { Appends output.old output.new (line_end (request_columns (hex_bytes request.entry.message.now) (hex_bytes request.entry.confidence.now) (hex_number request.entry.word.now) (decimal_number request.entry.limit.now))) }

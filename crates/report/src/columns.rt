@@ -11,6 +11,7 @@ use request::Request;
 use text::Output;
 
 // What follows the line's number.
+#[tactic(auto, using(crate::proofs::Texts::answers))]
 pub fn write_answer(output: &mut Output<'_>, line: &[u8])
     ensures written { Appends output.old output.new (answer_text (columns line.now)) }
     ensures line_len_bound { length (answer_text (columns line.now)) ≤ 19 + 24 * length line.now }

@@ -9,6 +9,7 @@ use reading::Lines;
 use text::Output;
 
 // The lines of the input, numbered from 1.
+#[tactic(auto, using(crate::proofs::Texts::numbering))]
 pub(crate) fn write_lines(output: &mut Output<'_>, input: &[u8])
     requires { length input.now ≤ 65536 }
     ensures written { Appends output.old output.new (output_lines 1 (lines input.now)) }
@@ -26,7 +27,7 @@ fn write_line(output: &mut Output<'_>, number: usize, line: &[u8])
     ensures written { Appends output.old output.new (output_line number line.now) }
     ensures line_len_bound { length (output_line number line.now) ≤ 24 * (length line.now + 1) }
 {
-    // there is no `From` of a usize for a u64
+    // Rust has no `From` of a usize for a u64, and a `try_from` would only test again
     output.put_decimal(number as u64);
     write_answer(output, line);
 }

@@ -6,7 +6,7 @@ use Prim.Native.Nat.{ℕ, zero, suc, ◌+◌}
 use native.Mathlib.Omega.{arith}
 use lib.ListN.{length}
 use lib.Seq.{get_or-drop}
-use lib.Dec.{ltb}
+use lib.Dec.{ltb, eqb}
 use borrow.Author.Tests.{ltb-true, ltb-false}
 use Rattle.text.specs.Ascii.{ascii, space}
 use Rattle.text.proofs.Laws.{no_more, picked, passed_over}
@@ -14,6 +14,8 @@ use Rattle.reading.specs.Lines.{columns, before}
 use Rattle.reading.proofs.Laws.{first-column, split-column, whole-column}
 use Rattle.shift_report.specs.Tally.{Row, same_text, column_at, label}
 use Rattle.shift_report.specs.Printed.{behind, row_of}
+use Rattle.std.specs.Cmp.Lexicographic.{pointwise}
+use Rattle.shift_report.proofs.Same.{pointwise-same}
 
 pub column-first : (s : List ℕ) → before space s ≡ column_at (columns s) 0
 column-first s = sym (ap (λ (cs : Row). column_at cs 0) (first-column s))
@@ -40,29 +42,11 @@ column-behind s k = cases (ltb (length (before space s)) (length s)) refl
         ∙ sym (ap (λ (cs : Row). column_at cs (suc k)) (whole-column s (length (before space s)) refl over))
 
 -- the fourth column is the first behind three others
-pub column_fourth : (s window bits mark : List ℕ) → window ≡ behind space s → bits ≡ behind space window → mark ≡ behind space bits
-    → before space mark ≡ column_at (columns s) 3
-column_fourth s window bits mark e f g =
-    column-first mark
-    ∙ ap (λ (l : List ℕ). column_at (columns l) 0) g
-    ∙ column-behind bits 0
-    ∙ ap (λ (l : List ℕ). column_at (columns l) 1) f
-    ∙ column-behind window 1
-    ∙ ap (λ (l : List ℕ). column_at (columns l) 2) e
-    ∙ column-behind s 2
+pub column_fourth : (s : List ℕ) → column_at (columns s) 3 ≡ before space (behind space (behind space (behind space s)))
+column_fourth s =
+    sym (column-first (behind space (behind space (behind space s))) ∙ column-behind (behind space (behind space s)) 0 ∙ column-behind (behind space s) 1 ∙ column-behind s 2)
 
 -- ---- the name that a row counts for hangs on two of its columns
-
-module _ (row : Row) (answer : List ℕ) (e : answer ≡ column_at row 0) where
-  pub label-mark : (mark : List ℕ) → mark ≡ column_at row 3 → same_text answer (ascii "corrected") ≡ true → mark ≡ label row
-  unfolding label
-  label-mark mark f t =
-      f ∙ sym (picked (same_text (column_at row 0) (ascii "corrected")) (column_at row 3) (column_at row 0) (ap (λ (a : List ℕ). same_text a (ascii "corrected")) (sym e) ∙ t))
-
-  pub label-answer : same_text answer (ascii "corrected") ≡ false → answer ≡ label row
-  unfolding label
-  label-answer t =
-      e ∙ sym (passed_over (same_text (column_at row 0) (ascii "corrected")) (column_at row 3) (column_at row 0) (ap (λ (a : List ℕ). same_text a (ascii "corrected")) (sym e) ∙ t))
 
 -- a line's row is the columns behind its number
 pub label-behind : (line : List ℕ) → label (columns (behind space line)) ≡ label (row_of line)
@@ -71,3 +55,23 @@ label-behind line =
     ap₂ (λ (a m : List ℕ). cond (same_text a (ascii "corrected")) m a)
     (column-behind line 0 ∙ sym (get_or-drop 1 (columns line) 0 []))
     (column-behind line 3 ∙ sym (get_or-drop 1 (columns line) 3 []))
+
+-- what the code compares: the answer with the word `corrected`
+module _ (line word : List ℕ) (e : word ≡ ascii "corrected") where
+  same_answer : pointwise eqb (before space (behind space line)) word ≡ same_text (column_at (columns (behind space line)) 0) (ascii "corrected")
+  same_answer =
+      pointwise-same (before space (behind space line)) word ∙ ap₂ same_text (column-first (behind space line)) e
+
+  pub label-mark : pointwise eqb (before space (behind space line)) word ≡ true
+      → (pointwise eqb (before space (behind space line)) word ≡ true) × (label (row_of line) ≡ column_at (columns (behind space line)) 3)
+  unfolding label
+  label-mark t =
+      (t, sym (label-behind line) ∙ picked (same_text (column_at (columns (behind space line)) 0) (ascii "corrected")) (column_at (columns (behind space line)) 3) (column_at (columns (behind space line)) 0) (sym same_answer ∙ t))
+
+  pub label-answer : pointwise eqb (before space (behind space line)) word ≡ false
+      → (pointwise eqb (before space (behind space line)) word ≡ false) × (label (row_of line) ≡ before space (behind space line))
+  unfolding label
+  label-answer t =
+      (t, sym (label-behind line) ∙ passed_over (same_text (column_at (columns (behind space line)) 0) (ascii "corrected")) (column_at (columns (behind space line)) 3) (column_at (columns (behind space line)) 0) (sym same_answer ∙ t) ∙ sym (column-first (behind space line)))
+
+pub ruleset labelling = (label-mark, label-answer, pointwise-same)

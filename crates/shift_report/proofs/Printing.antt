@@ -3,7 +3,7 @@
 use mathlib.Core.Path.{◌≡◌, refl, sym, ap, ap₂, ◌∙◌}
 use mathlib.Core.Bool.{Bool, true, ◌&&◌, and-eq-true_iff}
 use mathlib.Core.List.{List, [], ◌∷◌, ◌++◌, map, append-nil}
-use Prim.Native.Nat.{ℕ, ◌+◌, ◌≤◌}
+use Prim.Native.Nat.{ℕ, ◌+◌, ◌<◌, ◌≤◌}
 use native.Mathlib.Omega.{arith}
 use lib.ListN.{length, drop}
 use Rattle.text.specs.Ascii.{ascii, space, line_feed}
@@ -15,8 +15,9 @@ use Rattle.verdicts.specs.Columns.{lacking, spaced}
 use Rattle.verdicts.proofs.Laws.{spaced-nil, spaced-cons}
 use Rattle.report.specs.Sift.{answer_columns, output_lines, sift_output}
 use Rattle.report.proofs.Laws.{no_output, output_line_lem, output_read}
-use Rattle.shift_report.specs.Tally.{Row, rows}
+use Rattle.shift_report.specs.Tally.{Row, rows, page, tally_output}
 use Rattle.shift_report.specs.Printed.{behind, row_of, rows_in, printed_rows}
+use Rattle.shift_report.proofs.Pages.{output_page, output_too_long}
 use Rattle.shift_report.proofs.Answered.{Kind, kind_row, row-shown}
 use Rattle.shift_report.proofs.Answered.Kind.{is_clean, is_sole, is_several, is_dense, is_no_fit, is_refused, is_malformed}
 
@@ -118,3 +119,12 @@ pub rows_of_printed : (input : List ℕ) → length input ≤ 65536 → printed_
 unfolding printed_rows rows_in rows
 rows_of_printed input h =
     ap (map row_of) (lines-behind (sift_output input) ∙ printed-lines input h) ∙ rows-printed 1 (lines input)
+
+-- so their page is the output
+pub printed_page : (input : List ℕ) → length input ≤ 65536 → page (printed_rows (sift_output input)) ≡ tally_output input
+printed_page input h = ap page (rows_of_printed input h) ∙ output_page input h
+
+pub too_long_length : (input : List ℕ) → 65536 < length input → length (tally_output input) ≤ 192
+too_long_length input h = omega (arith, ap length (output_too_long input (ascii "too long\n") refl h))
+
+pub ruleset outputs = (printed_page, output_too_long, too_long_length)

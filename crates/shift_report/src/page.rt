@@ -5,26 +5,29 @@ ghost use Rattle.text.specs.Output.{Appends};
 ghost use Rattle.shift_report.specs.Tally.{page_line, how_many, names, counts, page as page_of};
 ghost use Rattle.shift_report.specs.Printed.{printed_rows, rows_in};
 
-use crate::counting::{count_all, count_named};
+use crate::counting::Rows;
 use reading::cut;
 use text::Output;
 
 // Of what sift printed, of which the header comes first.
+#[tactic(auto, using(crate::proofs::Pages::pages, crate::proofs::Counts::counting), unfolding(crate::specs::Printed::printed_rows))]
 pub(crate) fn write_page(output: &mut Output<'_>, printed: &[u8])
     requires { length printed.now ≤ 1572928 }
     ensures written { Appends output.old output.new (page_of (printed_rows printed.now)) }
     ensures page_len_bound { length (page_of (printed_rows printed.now)) ≤ 192 }
 {
-    let (_, rows) = cut(printed, b'\n');
-    write_line(output, b"lines", count_all(rows));
+    let (_, text) = cut(printed, b'\n');
+    let rows = Rows { text };
+    write_line(output, b"lines", rows.count_all());
     write_counts(output, rows);
 }
 
-// Those after `lines`, in their order.
-fn write_counts(output: &mut Output<'_>, rows: &[u8])
-    requires { length rows.now ≤ 1572928 }
-    ensures written { Appends output.old output.new (counts (rows_in rows.now) names) }
-    ensures counts_len_bound { length (counts (rows_in rows.now) names) ≤ 126 }
+// Those after `lines`, in their order: seven calls and no loop over a list of names, whose definition the proof would have to take apart
+// at each turn.
+#[tactic(auto, using(crate::proofs::Pages::counts_written))]
+fn write_counts(output: &mut Output<'_>, rows: Rows<'_>)
+    ensures written { Appends output.old output.new (counts (rows_in rows.entry.text.now) names) }
+    ensures counts_len_bound { length (counts (rows_in rows.entry.text.now) names) ≤ 126 }
 {
     write_count(output, b"clean", rows);
     write_count(output, b"sole", rows);
@@ -36,12 +39,11 @@ fn write_counts(output: &mut Output<'_>, rows: &[u8])
 }
 
 #[tactic(auto, using(crate::proofs::Counts::counting))]
-fn write_count(output: &mut Output<'_>, name: &[u8], rows: &[u8])
-    requires { length rows.now ≤ 1572928 }
-    ensures written { Appends output.old output.new (page_line name.now (how_many name.now (rows_in rows.now))) }
-    ensures number_len_bound { length (decimal_text (how_many name.now (rows_in rows.now))) ≤ 10 }
+fn write_count(output: &mut Output<'_>, name: &[u8], rows: Rows<'_>)
+    ensures written { Appends output.old output.new (page_line name.now (how_many name.now (rows_in rows.entry.text.now))) }
+    ensures number_len_bound { length (decimal_text (how_many name.now (rows_in rows.entry.text.now))) ≤ 10 }
 {
-    write_line(output, name, count_named(rows, name));
+    write_line(output, name, rows.count_named(name));
 }
 
 // `name number` and the line feed; a number of the lines of a buffer has at most ten digits.
@@ -53,7 +55,7 @@ fn write_line(output: &mut Output<'_>, name: &[u8], n: usize)
 {
     output.put_bytes(name);
     output.put_byte(b' ');
-    // there is no `From` of a usize for a u64
+    // Rust has no `From` of a usize for a u64, and a `try_from` would only test again
     output.put_decimal(n as u64);
     output.put_byte(b'\n');
 }

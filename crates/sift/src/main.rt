@@ -7,11 +7,12 @@
 // something was said.
 #![tactic(auto)]
 
-ghost use Rattle.std.specs.Prelude.{IsTrue, IfSome};
+ghost use Rattle.std.specs.Prelude.{OnOk, IfSome};
 ghost use Rattle.std.specs.Io.KnownBytes.{Appends};
 ghost use Rattle.report.specs.Sift.{sift_output};
 
 use console::Console;
+use std::io;
 use std::io::{Read, Write};
 
 fn main(rt: HostRuntime) {
@@ -21,17 +22,18 @@ fn main(rt: HostRuntime) {
         output: rt.stdout(),
         errors: rt.stderr(),
     };
-    run(&mut console);
+    // what went wrong has been said
+    let _ = run(&mut console);
 }
 
-// Whether all was read and written.
-fn run<R: Read, W: Write, E: Write>(console: &mut Console<R, W, E>) -> bool
-    ensures { IsTrue result → IfSome (R.remaining console.old.input) (λ xs. Appends (W.contents console.old.output) (W.contents console.new.output) (sift_output xs)) }
+// Where all was read and written, the output is what is made of the whole input.
+fn run<R: Read, W: Write, E: Write>(console: &mut Console<R, W, E>) -> io::Result<()>
+    ensures { OnOk result (IfSome (R.remaining console.old.input) (λ xs. Appends (W.contents console.old.output) (W.contents console.new.output) (sift_output xs))) }
 {
     let mut bytes = [0u8; 65537];
     let read = console.read(&mut bytes, "answered");
     let mut out = [0u8; 1572928];
     let length = report::sift(&bytes[..read.size], &mut out);
-    let written = console.write(&out[..length]);
-    read.ended.is_ok() && written.is_ok()
+    console.write(&out[..length])?;
+    read.ended
 }

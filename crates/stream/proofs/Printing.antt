@@ -1,6 +1,5 @@
 -- What is printed and held, byte by byte from a place on, and how long a line of output is.
 use mathlib.Core.Path.{◌≡◌, sym, ap, ◌∙◌}
-use mathlib.Core.Bool.{Bool, true, false, cond}
 use mathlib.Core.List.{List, [], ◌∷◌, ◌++◌}
 use Prim.Native.Nat.{ℕ, ◌+◌, ◌*◌, ◌<◌, ◌≤◌}
 use native.Mathlib.Omega.{arith}
@@ -9,7 +8,8 @@ use lib.Dec.{eqb, leb}
 use borrow.Author.Tests.{eq-eqb, ne_eqb, le-leb, lt-leb}
 use Rattle.text.specs.Ascii.{line_feed}
 use Rattle.text.specs.Digits.{decimal_text}
-use Rattle.text.proofs.Laws.{append-none, decimal-length, picked, passed_over, next_byte, no_more}
+use Rattle.text.specs.Output.{Place, append}
+use Rattle.text.proofs.Laws.{append-none, part_done, decimal-length, picked, passed_over, next_byte, no_more}
 use Rattle.reading.specs.Lines.{columns}
 use Rattle.report.specs.Sift.{answer_text, output_line}
 use Rattle.report.proofs.Laws.{line_text_lem}
@@ -51,33 +51,42 @@ pub ruleset byte_steps = (held-ended, held_kept, printed_ended, printed-kept, ap
 
 -- ---- the bytes of a piece, from a place on
 
-module _ (h : Held) (piece : List ℕ) (i : ℕ) where
-  next-printed : i < length piece
-      → printed h (drop i piece) ≡ printed_at_byte h (get_or piece i 0) ++ printed (held_after_byte h (get_or piece i 0)) (drop (i + 1) piece)
-  unfolding printed
-  next-printed k = ap (printed h) (next_byte piece i k)
-
-  next-held : i < length piece → held_after h (drop i piece) ≡ held_after (held_after_byte h (get_or piece i 0)) (drop (i + 1) piece)
-  unfolding held_after
-  next-held k = ap (held_after h) (next_byte piece i k)
-
-  pub all-printed : length piece ≤ i → printed h (drop i piece) ≡ []
-  unfolding printed
-  all-printed k = ap (printed h) (no_more piece i k)
-
-  pub all_held : length piece ≤ i → held_after h (drop i piece) ≡ h
-  unfolding held_after
-  all_held k = ap (held_after h) (no_more piece i k)
-
 -- one byte of the piece, after which h' is held
 module _ (h h' : Held) (piece : List ℕ) (i : ℕ) (k : i < length piece) (e : h' ≡ held_after_byte h (get_or piece i 0)) where
-  pub byte-printed : printed h (drop i piece) ≡ printed_at_byte h (get_or piece i 0) ++ printed h' (drop (i + 1) piece)
-  byte-printed =
-      next-printed h piece i k
+  next-printed : printed h (drop i piece) ≡ printed_at_byte h (get_or piece i 0) ++ printed h' (drop (i + 1) piece)
+  unfolding printed
+  next-printed =
+      ap (printed h) (next_byte piece i k)
       ∙ ap (λ (x : Held). printed_at_byte h (get_or piece i 0) ++ printed x (drop (i + 1) piece)) (sym e)
 
-  pub byte-held : held_after h' (drop (i + 1) piece) ≡ held_after h (drop i piece)
-  byte-held = ap (λ (x : Held). held_after x (drop (i + 1) piece)) e ∙ sym (next-held h piece i k)
+  pub next-put : (p q : Place) → q ≡ append p (printed_at_byte h (get_or piece i 0)) → append p (printed h (drop i piece)) ≡ append q (printed h' (drop (i + 1) piece))
+  next-put p q f = sym (part_done p q (printed_at_byte h (get_or piece i 0)) (printed h' (drop (i + 1) piece)) (printed h (drop i piece)) f next-printed)
+
+  pub next-size : length (printed h (drop i piece)) ≡ length (printed_at_byte h (get_or piece i 0)) + length (printed h' (drop (i + 1) piece))
+  next-size = ap length next-printed ∙ length-append (printed_at_byte h (get_or piece i 0)) (printed h' (drop (i + 1) piece))
+
+  pub next-held : held_after h (drop i piece) ≡ held_after h' (drop (i + 1) piece)
+  unfolding held_after
+  next-held = ap (held_after h) (next_byte piece i k) ∙ ap (λ (x : Held). held_after x (drop (i + 1) piece)) (sym e)
+
+-- no byte more
+module _ (h : Held) (piece : List ℕ) (i : ℕ) (k : length piece ≤ i) where
+  none-printed : printed h (drop i piece) ≡ []
+  unfolding printed
+  none-printed = ap (printed h) (no_more piece i k)
+
+  pub none-put : (p : Place) → append p (printed h (drop i piece)) ≡ p
+  unfolding append
+  none-put p = ap (append p) none-printed
+
+  pub none-size : length (printed h (drop i piece)) ≡ 0
+  none-size = ap length none-printed
+
+  pub none-held : held_after h (drop i piece) ≡ h
+  unfolding held_after
+  none-held = ap (held_after h) (no_more piece i k)
+
+pub ruleset piece_steps = (next-put, next-size, next-held, none-put, none-size, none-held)
 
 -- ---- the end
 
@@ -89,13 +98,5 @@ module _ (h : Held) where
   pub no-last-line : length h.1 ≤ 0 → printed_at_end h ≡ []
   unfolding printed_at_end
   no-last-line k = picked (leb (length h.1) 0) [] (output_line (h.0 + 1) h.1) (le-leb (length h.1) 0 k)
-
-  pub end-length : (n : ℕ) → length (output_line (h.0 + 1) h.1) ≤ n → length (printed_at_end h) ≤ n
-  unfolding printed_at_end
-  end-length n k = cases (leb (length h.1) 0)
-    where
-      cases : (t : Bool) → length (cond t [] (output_line (h.0 + 1) h.1)) ≤ n
-      cases true = omega arith
-      cases false = k
 
 pub ruleset end_steps = (last_line, no-last-line, append-none)

@@ -1,9 +1,9 @@
 -- A call that is refused, and one that is not: what it prints and what is held after it.
 use mathlib.Core.Path.{◌≡◌, refl, ap, ap₂}
 use mathlib.Core.Bool.{Bool, true, false, ◌||◌}
-use mathlib.Core.List.{List, []}
+use mathlib.Core.List.{List, [], ◌++◌}
 use Prim.Native.Nat.{ℕ, ◌^◌, ◌≤◌, ◌<◌}
-use lib.ListN.{length}
+use lib.ListN.{length, drop}
 use lib.Dec.{leb, ltb}
 use borrow.Author.Tests.{leb-false, ltb-false, lt-leb, le-ltb, le-leb, lt-ltb}
 use Rattle.text.proofs.Laws.{picked, passed_over}
@@ -64,3 +64,14 @@ unfolding is_refused
 refused_piece ended piece h k = ap₂ ◌||◌ (lt-leb (2 ^ 63) ended h) (lt-ltb 4096 (length piece) k)
 
 pub ruleset admitting = (refused_lines, refused_piece, is_not-refused)
+
+-- a call that appends nothing leaves the buffer as it was
+pub left_alone : (t out : List ℕ) → t ≡ [] → t ++ drop (length t) out ≡ out
+left_alone t out e = ap (λ (x : List ℕ). x ++ drop (length x) out) e
+
+pub passed : (ended : ℕ) (piece : List ℕ) → is_refused ended piece ≡ false → (is_refused ended piece ≡ false) × (ended < 2 ^ 63) × (length piece ≤ 4096)
+passed ended piece e =
+    let small = not-refused ended piece e in
+    (e, small.0, small.1)
+
+pub ruleset refusing = (refused_text, refused-held, fed-text, fed-held, refused_end, fed-end, left_alone, passed)

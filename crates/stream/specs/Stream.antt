@@ -1,10 +1,12 @@
 -- sift's answers to a recording that comes in pieces, one byte after the other. Nothing here says what a line is or what is
 -- answered to it: a line is answered by `output_line`, sift's own definition (report/specs/Sift.antt). That this is sift's
 -- output for the pieces joined, without its limit of 65,536 bytes, is a theorem (stream_meaning).
-use Rattle.std.specs.Prelude.{ℕ, ◌+◌, ◌^◌, List, [], ◌∷◌, ◌++◌, Bool, cond, ◌||◌, length, take, eqb, leb, ltb}
+use Rattle.std.specs.Prelude.{ℕ, ◌+◌, ◌^◌, List, [], ◌∷◌, ◌++◌, Bool, cond, ◌||◌, length, take, eqb, leb, ltb, Option, Some, None}
 use Rattle.text.specs.Ascii.{line_feed}
 use Rattle.report.specs.Sift.{output_line}
 use Rattle.stream.specs.declared.state.State.{State}
+use Rattle.stream.specs.declared.state.Refused.{Refused}
+use Rattle.stream.specs.declared.state.Refused.TheVariants.{TooManyLines, PieceTooLong}
 
 -- ---- what is held between two pieces
 
@@ -48,6 +50,10 @@ printed_at_end h = cond (leb (length h.1) 0) [] (output_line (h.0 + 1) h.1)
 
 unfoldable pub is_refused : ℕ → List ℕ → Bool
 is_refused ended piece = leb (2 ^ 63) ended || ltb 4096 (length piece)
+
+-- and why: where both hold, for the lines that have ended
+unfoldable pub refusal_of : ℕ → List ℕ → Option Refused
+refusal_of ended piece = cond (leb (2 ^ 63) ended) (Some TooManyLines) (cond (ltb 4096 (length piece)) (Some PieceTooLong) None)
 
 unfoldable pub feed_text : Held → List ℕ → List ℕ
 feed_text h piece = cond (is_refused h.0 piece) [] (printed h piece)

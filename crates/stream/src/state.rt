@@ -3,14 +3,15 @@
 //
 // The last promise of each function bounds the output: 62 bytes for each byte of the piece, and 24 for each byte kept, which are
 // paid back when the line is answered (src/lib.rt).
-ghost use Rattle.std.specs.Prelude.{◌+◌, ◌*◌, ◌≤◌, ◌<◌, ◌≡◌, true, false, [], ◌∷◌, ◌++◌, length, take, drop, MatchResult, IfOk, Err};
+ghost use Rattle.std.specs.Prelude.{◌+◌, ◌*◌, ◌≤◌, ◌<◌, ◌≡◌, true, false, [], ◌∷◌, ◌++◌, length, take, drop, MatchResult, IfOk, IfErr, Some};
 ghost use Rattle.text.specs.Output.{Appends};
 ghost use Rattle.report.specs.Sift.{header, output_line};
-ghost use Rattle.stream.specs.Stream.{held, held_by, held_after_byte, printed_at_byte, held_after, printed, printed_at_end, is_refused, feed_text, feed_held, finish_text};
+ghost use Rattle.stream.specs.Stream.{held, held_by, held_after_byte, printed_at_byte, held_after, printed, printed_at_end, is_refused, refusal_of, feed_text, feed_held, finish_text};
 
 use text::Output;
 
-// Why a call is refused: 2^63 lines have ended, or the piece is too long for the output buffer.
+// Why a call is refused: 2^63 lines have ended, or the piece is too long for the output buffer. An enum of its own, since neither
+// is a row of the table that `outcome::Refusal` has.
 #[derive(Clone, Copy, Debug, PartialEq, Eq)]
 pub enum Refused {
     TooManyLines,
@@ -28,7 +29,9 @@ pub struct State {
 }
 
 impl State {
-    // The header, and the state before the first piece. The answer has the number of bytes at the start of the buffer.
+    // The header, and the state before the first piece. The answer has the number of bytes at the start of the buffer: a length, here and
+    // below, as report::sift answers.
+    #[tactic(auto, using(report::proofs::Laws::at_start))]
     pub fn begin(out: &mut [u8; 255616]) -> (State, usize)
         ensures state_value { held_by result.0 ≡ (0, []) }
         ensures taken_value { result.1 ≡ length header }
@@ -48,11 +51,10 @@ impl State {
     // Answers the lines that end in a piece of at most 4,096 bytes. The output stands at the start of the buffer, whose other
     // bytes stay; the answer is its length. A call that is refused leaves all as it was. The last promise follows from the
     // others: with it a caller lends `&out[..taken]` without a proof.
+    #[tactic(auto, using(report::proofs::Laws::at_start, crate::proofs::Refusing::refusing, std::proofs::lemmas::Grind::common_steps))]
     pub fn feed(&mut self, piece: &[u8], out: &mut [u8; 255616]) -> Result<usize, Refused>
         ensures refused_value { MatchResult result (λ _. is_refused self.old.ended piece.now ≡ false) (λ _. is_refused self.old.ended piece.now ≡ true) }
-        ensures too_many_lines { result ≡ Err Refused.TooManyLines → 9223372036854775808 ≤ self.old.ended }
-        ensures piece_too_long { result ≡ Err Refused.PieceTooLong → 4096 < length piece.now }
-
+        ensures refused_by { IfErr result (λ r. refusal_of self.old.ended piece.now ≡ Some r) }
         ensures state_value { held_by self.new ≡ feed_held (held_by self.old) piece.now }
         ensures out_after { out.new ≡ feed_text (held_by self.old) piece.now ++ drop (length (feed_text (held_by self.old) piece.now)) out.old }
         ensures taken_value { IfOk result (λ taken. taken ≡ length (feed_text (held_by self.old) piece.now)) }
@@ -60,22 +62,20 @@ impl State {
     {
         admit(self.ended, piece)?;
         let mut output = Output::new(out);
-        let start = Walk {
-            ended: self.ended,
-            size: self.size,
+        let mut line = Output {
+            buffer: &mut self.kept,
+            taken: self.size,
         };
-        let walk = take_piece(&mut self.kept, start, piece, &mut output);
-        self.ended = walk.ended;
-        self.size = walk.size;
+        self.ended = take_piece(self.ended, &mut line, piece, &mut output);
+        self.size = line.taken;
         Ok(output.taken)
     }
 
     // Answers the last line, where it has a byte and no line feed.
+    #[tactic(auto, using(report::proofs::Laws::at_start, crate::proofs::Refusing::refusing, std::proofs::lemmas::Grind::common_steps))]
     pub fn finish(&self, out: &mut [u8; 255616]) -> Result<usize, Refused>
         ensures refused_value { MatchResult result (λ _. is_refused self.now.ended [] ≡ false) (λ _. is_refused self.now.ended [] ≡ true) }
-        ensures too_many_lines { result ≡ Err Refused.TooManyLines → 9223372036854775808 ≤ self.now.ended }
-        ensures piece_too_long { result ≡ Err Refused.PieceTooLong → 4096 < 0 }
-
+        ensures refused_by { IfErr result (λ r. refusal_of self.now.ended [] ≡ Some r) }
         ensures out_after { out.new ≡ finish_text (held_by self.now) ++ drop (length (finish_text (held_by self.now))) out.old }
         ensures taken_value { IfOk result (λ taken. taken ≡ length (finish_text (held_by self.now))) }
         ensures taken_in_bounds { IfOk result (λ taken. (taken ≤ length out.new) × (taken ≡ length (take taken out.new))) }
@@ -87,88 +87,62 @@ impl State {
     }
 
     // 'A last piece without a line feed is a line if it has a byte.'
-    #[tactic(auto, using(crate::proofs::Printing::end_steps))]
+    #[tactic(auto, using(crate::proofs::Printing::end_steps, crate::proofs::Keeping::line_taken, std::proofs::lemmas::Grind::common_steps))]
     fn write_last(&self, output: &mut Output<'_>)
         requires { self.now.ended < 9223372036854775808 }
         ensures written { Appends output.old output.new (printed_at_end (held_by self.now)) }
         ensures printed_len_bound { length (printed_at_end (held_by self.now)) ≤ 1670 }
     {
-        let line = first_bytes(&self.kept, self.size);
+        let line = &self.kept[..self.size.min(68)];
         if !line.is_empty() {
             write_line(output, self.ended + 1, line);
         }
     }
 }
 
-// What stands between two bytes of a piece, beside the bytes kept. It goes by value, and is no part of a State behind
-// `&mut`: there each byte would wait for the size that the last one stored, and a recording take half as long again.
-#[derive(Clone, Copy)]
-struct Walk {
-    ended: u64,
-    size: usize,
-}
-
-// All bytes of a piece.
-fn take_piece(kept: &mut [u8; 68], start: Walk, piece: &[u8], output: &mut Output<'_>) -> Walk
+// All bytes of a piece. The line that has begun is an output too: a byte is appended to it, and a full one stays as it is.
+#[tactic(auto, using(crate::proofs::Printing::piece_steps))]
+fn take_piece(start: u64, line: &mut Output<'_>, piece: &[u8], output: &mut Output<'_>) -> u64
+    requires line_length { length line.old.buffer.now ≡ 68 }
     requires piece_len_bound { length piece.now ≤ 4096 }
-    requires ended_bound { start.ended < 9223372036854775808 }
-    ensures state_value { held result.ended kept.new result.size ≡ held_after (held start.ended kept.old start.size) piece.now }
-    ensures written { Appends output.old output.new (printed (held start.ended kept.old start.size) piece.now) }
-    ensures printed_len_bound { length (printed (held start.ended kept.old start.size) piece.now) ≤ 24 * length (held start.ended kept.old start.size).1 + 62 * length piece.now }
+    requires start_bound { start < 9223372036854775808 }
+    ensures same_line { line.new.buffer.ghost_name ≡ line.old.buffer.ghost_name }
+    ensures state_value { held result line.new.buffer.now line.new.taken ≡ held_after (held start line.old.buffer.now line.old.taken) piece.now }
+    ensures written { Appends output.old output.new (printed (held start line.old.buffer.now line.old.taken) piece.now) }
+    ensures printed_len_bound { length (printed (held start line.old.buffer.now line.old.taken) piece.now) ≤ 24 * length (held start line.old.buffer.now line.old.taken).1 + 62 * length piece.now }
 {
-    let mut walk = start;
+    let mut ended = start;
     for &b in piece {
-        walk = take_byte(kept, walk, b, output);
+        ended = take_byte(ended, line, b, output);
     }
-    walk
+    ended
 }
 
-#[tactic(auto, using(crate::proofs::Printing::byte_steps))]
-fn take_byte(kept: &mut [u8; 68], walk: Walk, b: u8, output: &mut Output<'_>) -> Walk
-    requires { walk.ended < 9223372036854779904 }
-    ensures ended_bound { result.ended ≤ walk.ended + 1 }
-    ensures state_value { held result.ended kept.new result.size ≡ held_after_byte (held walk.ended kept.old walk.size) b }
-    ensures written { Appends output.old output.new (printed_at_byte (held walk.ended kept.old walk.size) b) }
-    ensures printed_len_bound { length (printed_at_byte (held walk.ended kept.old walk.size) b) + 24 * length (held result.ended kept.new result.size).1 ≤ 24 * length (held walk.ended kept.old walk.size).1 + 62 }
+#[tactic(auto, using(crate::proofs::Printing::byte_steps, crate::proofs::Keeping::keeping, crate::proofs::Keeping::line_taken, std::proofs::lemmas::Grind::common_steps), unfolding(text::specs::Output::append, text::specs::Output::append_byte))]
+fn take_byte(ended: u64, line: &mut Output<'_>, b: u8, output: &mut Output<'_>) -> u64
+    requires line_length { length line.old.buffer.now ≡ 68 }
+    requires ended_bound { ended < 9223372036854779904 }
+    ensures ended_bound { result ≤ ended + 1 }
+    ensures same_line { (line.new.buffer.ghost_name ≡ line.old.buffer.ghost_name) × (length line.new.buffer.now ≡ 68) }
+    ensures state_value { held result line.new.buffer.now line.new.taken ≡ held_after_byte (held ended line.old.buffer.now line.old.taken) b }
+    ensures written { Appends output.old output.new (printed_at_byte (held ended line.old.buffer.now line.old.taken) b) }
+    ensures printed_len_bound { length (printed_at_byte (held ended line.old.buffer.now line.old.taken) b) + 24 * length (held result line.new.buffer.now line.new.taken).1 ≤ 24 * length (held ended line.old.buffer.now line.old.taken).1 + 62 }
 {
     if b == b'\n' {
-        let ended = walk.ended + 1;
-        write_line(output, ended, first_bytes(kept, walk.size));
-        Walk { ended, size: 0 }
+        let size = line.taken.min(68);
+        write_line(output, ended + 1, &line.buffer[..size]);
+        line.taken = 0;
+        ended + 1
     } else {
-        Walk {
-            size: keep_byte(kept, walk.size, b),
-            ..walk
-        }
+        line.put_byte(b);
+        ended
     }
 }
 
-// The first 68 bytes of a line are kept: a full array stays as it is.
-#[tactic(auto, using(crate::proofs::Keeping::keeping))]
-fn keep_byte(kept: &mut [u8; 68], size: usize, b: u8) -> usize
-    ensures { take result kept.new ≡ take 68 (take size kept.old ++ b ∷ []) }
-{
-    if size < kept.len() {
-        kept[size] = b;
-        size + 1
-    } else {
-        size
-    }
-}
-
-// The bytes kept: all, where the size names more.
-#[tactic(auto, using(crate::proofs::Keeping::line_taken))]
-fn first_bytes(kept: &[u8; 68], size: usize) -> &[u8]
-    ensures { result.now ≡ take size kept.now }
-{
-    &kept[..size.min(68)]
-}
-
-#[tactic(auto, using(crate::proofs::Refusing::admitting))]
+#[tactic(auto, using(crate::proofs::Refusing::admitting), unfolding(crate::specs::Stream::refusal_of))]
 fn admit(ended: u64, piece: &[u8]) -> Result<(), Refused>
     ensures refused_value { MatchResult result (λ _. is_refused ended piece.now ≡ false) (λ _. is_refused ended piece.now ≡ true) }
-    ensures too_many_lines { result ≡ Err Refused.TooManyLines → 9223372036854775808 ≤ ended }
-    ensures piece_too_long { result ≡ Err Refused.PieceTooLong → 4096 < length piece.now }
+    ensures refused_by { IfErr result (λ r. refusal_of ended piece.now ≡ Some r) }
 {
     if ended >= 9223372036854775808 {
         return Err(Refused::TooManyLines);

@@ -1,9 +1,10 @@
 // A lent buffer that bytes are appended to, and numbers as digits.
-ghost use Rattle.std.specs.Prelude.{◌≡◌, [], ◌∷◌, ◌<◌};
+ghost use Rattle.std.specs.Prelude.{◌≡◌, [], ◌∷◌, ◌<◌, take};
 ghost use Rattle.text.specs.Digits.{digit_of, hex_text, word_text, decimal_text, signed_text};
 ghost use Rattle.text.specs.Output.{Appends, place};
 
-// The fields take any values: where more bytes are said to be taken than there are, the buffer is full.
+// The buffer and the count of what is taken of it, in one struct. The fields take any values: where more bytes are said to be taken
+// than there are, the buffer is full.
 #[derive(Debug, Drop)]
 pub struct Output<'a> {
     pub buffer: &'a mut [u8],
@@ -19,6 +20,13 @@ impl<'a> Output<'a> {
         Output { buffer, taken: 0 }
     }
 
+    // The bytes that are taken, at most all that there are.
+    pub fn bytes(&self) -> &[u8]
+        ensures { result.now ≡ take self.now.taken self.now.buffer.now }
+    {
+        &self.buffer[..self.taken.min(self.buffer.len())]
+    }
+
     // A full buffer stays as it is.
     #[tactic(auto, unfolding(crate::specs::Output::append, crate::specs::Output::append_byte))]
     pub fn put_byte(&mut self, b: u8)
@@ -30,7 +38,8 @@ impl<'a> Output<'a> {
         }
     }
 
-    // As many of the bytes as there is room for.
+    // As many of the bytes as there is room for. Byte by byte, which is proved by the law of one byte alone: a copy of the part that
+    // fits would need its bounds and its place shown beside it.
     #[tactic(auto, using(crate::proofs::Appending::appending, std::proofs::lemmas::Grind::common_steps))]
     pub fn put_bytes(&mut self, s: &[u8])
         ensures { Appends self.old self.new s.now }

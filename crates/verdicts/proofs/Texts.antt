@@ -82,14 +82,6 @@ corrected_text w b m =
     ∙ append_assoc (ascii " corrected ") (decimal_text w) (space ∷ (decimal_text b ++ (space ∷ mark_word m)))
     ∙ ap (λ (t : List ℕ). ascii " corrected " ++ (decimal_text w ++ (space ∷ (decimal_text b ++ (space ∷ t))))) (sym (append-nil (mark_word m)))
 
-pub sole_text : ascii " sole" ≡ space ∷ mark_word sole_mark
-unfolding mark_word
-sole_text = refl
-
-pub several_text : ascii " several" ≡ space ∷ mark_word several_mark
-unfolding mark_word
-several_text = refl
-
 -- ---- lengths of verdicts, where a number has at most ten digits (src/lib.rt says why 40)
 
 mark_word-length : (m : ℕ) → length (mark_word m) ≤ 7

@@ -1,23 +1,16 @@
-use Rattle.std.proofs.Common.{◌≡◌, List, ℕ, take, length, sym, ap, ◌∙◌, subst, arith}
-use Rattle.std.specs.Io.KnownBytes.{Appends}
-use Rattle.std.proofs.Math.Seq.{take-append_seam}
+-- `tally::run` meets its contract: it writes what it makes of the first bytes, which is what it makes of all.
+-- Tried without: the check does not find it alone.
+use Rattle.std.proofs.Common.{◌≡◌, List, ℕ, take, length, arith}
 use Rattle.text.specs.Ascii.{ascii}
 use Rattle.shift_report.specs.Tally.{tally_output, page, rows}
-use Rattle.console.proofs.Laws.{at_ok, cond-take, writes-all}
+use Rattle.console.proofs.Laws.{cond-take, writes-all}
 use Rattle.tally.proofs.run.Goals as goal
 
-tally_output-take : (xs : List ℕ) → tally_output (take 65537 xs) ≡ tally_output xs
+tally_output-take : (n : ℕ) → n ≡ 65537 → (xs : List ℕ) → tally_output (take n xs) ≡ tally_output xs
 unfolding tally_output
-tally_output-take xs = cond-take 65536 (λ s. page (rows s)) (ascii "too long\n") xs
+tally_output-take n e xs = rw e (cond-take 65536 (λ s. page (rows s)) (ascii "too long\n") xs)
 
-pub returns-then-is_ok : goal.returns-then-is_ok
-returns-then-is_ok g c = λ ok.
-    let bytes : List ℕ = take c.read-read.result.size c.read-read.new.bytes in
-    let made : take c.tally-length.result c.tally-length.new.out ≡ tally_output bytes = ap (λ n. take n c.tally-length.new.out) c.tally-length.ensures.value ∙ ap (take (length (tally_output bytes))) c.tally-length.ensures.out_after ∙ take-append_seam (tally_output bytes) _ in
-    let first = at_ok c.read-read.result.ended c.read-read.ensures.first (sym c.is_ok.ensures.value ∙ c.if-is_ok.true) in
-    let written = at_ok c.write-written.result c.write-written.ensures.ok (sym c.is_ok-then-is_ok.ensures.value ∙ ok) in
-    let long : length c.read-read.new.bytes ≡ 65537 = omega arith in
-    let same = subst (λ k. (xs : List ℕ) → tally_output (take k xs) ≡ tally_output xs) (sym long) tally_output-take in
-    let after = g.W.Write.contents c.write-written.new.self.output in
-    let appended : Appends (g.W.Write.contents c.args.console.now.output) after (take c.tally-length.result c.tally-length.new.out) = subst (λ o. Appends (g.W.Write.contents o) after (take c.tally-length.result c.tally-length.new.out)) c.read-read.ensures.output written in
-    writes-all (g.R.Read.remaining c.args.console.now.input) (g.W.Write.contents c.args.console.now.output) after tally_output bytes (take c.tally-length.result c.tally-length.new.out) (length c.read-read.new.bytes) first appended made same
+pub returns : goal.returns
+returns g c =
+    writes-all tally_output g.W.Write.contents (g.R.Read.remaining c.args.console.now.input) _ c.read-read.new.bytes c.tally-length.new.out _ c.read-read.result.size _ _ _ c.read-read.result.ended
+    (tally_output-take (length c.read-read.new.bytes) (omega arith)) c.read-read.ensures.first c.tally-length.ensures.value c.tally-length.ensures.out_after c.read-read.ensures.output c.in_ok-write.ensures.ok

@@ -1,3 +1,5 @@
+-- `console::arguments::bytes` meets its contract: bytes that fit are taken within the buffer. Tried without: the check does not
+-- find it alone.
 use Rattle.std.proofs.Common.{arith, ◌≤◌, length}
 use Rattle.reading.specs.Digits.{hex_bytes}
 use Rattle.reading.proofs.Laws.{hex_bytes-length}

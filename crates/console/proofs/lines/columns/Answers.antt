@@ -1,3 +1,5 @@
+-- `console::lines::columns` meets its contract: what the splitting iterator gives are the columns of the definition. Tried
+-- without: the check finds neither the step nor the end, which go by the iterator's laws for its closure.
 use Rattle.std.proofs.Common.{◌≡◌, ℕ, ◌∷◌, List, [], eqb, cond, map, rules, arith, ◌<◌, length, ap, ◌∙◌, refl}
 use Rattle.std.proofs.lemmas.Iterator.{YieldsList-from_take}
 use Rattle.std.proofs.lemmas.Iterator.Consumers.{YieldsList-turn, YieldsList-end}

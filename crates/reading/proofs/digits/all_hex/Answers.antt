@@ -1,4 +1,5 @@
--- `reading::digits::all_hex` meets its contract.
+-- `reading::digits::all_hex` meets its contract. Tried without: the check does not find what a fold of tests gives alone, nor with
+-- a lemma of that fold named.
 use Rattle.std.proofs.Common.{rules, ◌∙◌}
 use mathlib.Core.Bool.{true, ◌&&◌}
 use Rattle.std.proofs.lemmas.Iterator.{YieldsList-from_slice}

@@ -14,9 +14,7 @@ abbrev pub invariant-loop-index : goal.invariant-loop-index
 invariant-loop-index l =
     let number = enumerate_count l.index-iterator + 1 in
     let left = lines (enumerate_source l.index-iterator).rest.now in
-    (goal.iterator-loop-index).can_next l.index-iterator
-    × (goal.iterator-loop-index).is_finite l.index-iterator
-    × (l.output.buffer.ghost_name ≡ l.initial.output.buffer.ghost_name)
+    (l.output.buffer.ghost_name ≡ l.initial.output.buffer.ghost_name)
     × (enumerate_count l.index-iterator + length left ≤ 65537)
     × (append (place l.output) (output_lines number left) ≡ append (place l.initial.output) (output_lines 1 (lines l.input)))
     × (length (output_lines 1 (lines l.input)) + 24 * lines_size left ≤ length (output_lines number left) + 24 * lines_size (lines l.input))

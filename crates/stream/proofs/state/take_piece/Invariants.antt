@@ -8,8 +8,13 @@ use Rattle.stream.proofs.state.take_piece.Given as goal
 
 abbrev pub invariant-loop-b : goal.invariant-loop-b
 invariant-loop-b l =
-    (l.walk.ended ≤ l.initial.walk.ended + l.b-index)
+    let start = held l.start l.initial.line.buffer.now l.initial.line.taken in
+    let now = held l.ended l.line.buffer.now l.line.taken in
+    let left = drop l.b-index l.piece in
+    (l.ended ≤ l.start + l.b-index)
+    × (length l.line.buffer.now ≡ 68)
+    × (l.line.buffer.ghost_name ≡ l.initial.line.buffer.ghost_name)
     × (l.output.buffer.ghost_name ≡ l.initial.output.buffer.ghost_name)
-    × (append (place l.output) (printed (held l.walk.ended l.kept l.walk.size) (drop l.b-index l.piece)) ≡ append (place l.initial.output) (printed (held l.initial.walk.ended l.initial.kept l.initial.walk.size) l.piece))
-    × (held_after (held l.walk.ended l.kept l.walk.size) (drop l.b-index l.piece) ≡ held_after (held l.initial.walk.ended l.initial.kept l.initial.walk.size) l.piece)
-    × (length (printed (held l.initial.walk.ended l.initial.kept l.initial.walk.size) l.piece) + 24 * length (held l.walk.ended l.kept l.walk.size).1 ≤ 24 * length (held l.initial.walk.ended l.initial.kept l.initial.walk.size).1 + 62 * l.b-index + length (printed (held l.walk.ended l.kept l.walk.size) (drop l.b-index l.piece)))
+    × (append (place l.output) (printed now left) ≡ append (place l.initial.output) (printed start l.piece))
+    × (held_after now left ≡ held_after start l.piece)
+    × (length (printed start l.piece) + 24 * length now.1 ≤ 24 * length start.1 + 62 * l.b-index + length (printed now left))
