@@ -11,7 +11,7 @@ use transponder::Reception;
 // What a call answers where it is not refused.
 pub(crate) trait Columns {
     // Appends the answer, its value and the message `m` after the call, where the answer has it. Message and output stay two
-    // parameters: they are lent from two buffers, and most answers print no message.
+    // parameters: they are lent from two buffers, and three of the seven kinds of answer print no message.
     fn put(self, m: &[u8], out: &mut Output<'_>);
 }
 

@@ -97,9 +97,6 @@ fn count(s: &[u8]) -> Option<usize> {
 
 // 16 acknowledgement bits: four capital hexadecimal digits.
 fn bits(s: &[u8]) -> Option<u16> {
-    if s.len() == 4 {
-        u16::try_from(word(s)?).ok()
-    } else {
-        None
-    }
+    let four: &[u8; 4] = s.try_into().ok()?;
+    u16::try_from(word(four)?).ok()
 }

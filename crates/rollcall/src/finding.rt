@@ -34,7 +34,8 @@ fn search(table: &Table, address: u32) -> usize
     })
 }
 
-// What the list names at a position; nothing past the count.
+// What the list names at a position; nothing past the count. That the list is as long as the count is asked here, by search and by the
+// test of its order, and is no part of Table: a call may lend one whose count is above its length.
 fn listed(table: &Table, at: usize) -> Option<Placed>
     requires { table.now.count ≤ length table.now.places.now }
     ensures { result ≡ listed_at table.now.records.now table.now.places.now table.now.count at }

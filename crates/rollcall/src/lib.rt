@@ -21,7 +21,7 @@ pub use rollcall_table::{Grade, Record, Sighting};
 // Sets every live mark to not live; the list is empty. It mends any table of right lengths.
 //
 // The project's document names this call, and find, remove and add_or_renew, with two lent buffers and a count. From here on they are one
-// struct: Lent, to be written, and Table, to be read.
+// struct: Lent, to be written, and Table, to be read; only the two functions that move the list take it with its count.
 pub fn clear(records: &mut [Record], places: &mut [u16], count: usize) -> Reply
     ensures answer { said result.answer ≡ clear_outcome records.old places.old }
     ensures count { result.count ≡ clear_count records.old places.old count }

@@ -98,6 +98,7 @@ fn grade_of(s: &[u8]) -> Option<Grade> {
 
 fn length(s: &[u8]) -> Option<TableLength> {
     let n = index(s)?;
+    // Not by `then`: in the closure the check does not know the bound, which the type asks for.
     if n <= 1024 {
         Some(TableLength { n })
     } else {

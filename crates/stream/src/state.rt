@@ -129,8 +129,7 @@ fn take_byte(ended: u64, line: &mut Output<'_>, b: u8, output: &mut Output<'_>) 
     ensures printed_len_bound { length (printed_at_byte (held ended line.old.buffer.now line.old.taken) b) + 24 * length (held result line.new.buffer.now line.new.taken).1 ≤ 24 * length (held ended line.old.buffer.now line.old.taken).1 + 62 }
 {
     if b == b'\n' {
-        let size = line.taken.min(68);
-        write_line(output, ended + 1, &line.buffer[..size]);
+        write_line(output, ended + 1, line.bytes());
         line.taken = 0;
         ended + 1
     } else {
