@@ -8,7 +8,7 @@ use crate::register::Register;
 use message::is_field_length;
 use outcome::{Refusal, refuse_unless};
 
-static TABLE: [u32; 256] = [
+const TABLE: [u32; 256] = [
     0x000000, 0xFFF409, 0x001C1B, 0xFFE812, 0x003836, 0xFFCC3F, 0x00242D, 0xFFD024, 0x00706C,
     0xFF8465, 0x006C77, 0xFF987E, 0x00485A, 0xFFBC53, 0x005441, 0xFFA048, 0x00E0D8, 0xFF14D1,
     0x00FCC3, 0xFF08CA, 0x00D8EE, 0xFF2CE7, 0x00C4F5, 0xFF30FC, 0x0090B4, 0xFF64BD, 0x008CAF,
@@ -39,6 +39,8 @@ static TABLE: [u32; 256] = [
     0xFA4CDA, 0x059CFE, 0xFA68F7, 0x0580E5, 0xFA74EC, 0x05D4A4, 0xFA20AD, 0x05C8BF, 0xFA3CB6,
     0x05EC92, 0xFA189B, 0x05F089, 0xFA0480,
 ];
+// The same where it is lent: a `const` is copied at each use.
+static LENT_TABLE: [u32; 256] = TABLE;
 
 // The table itself, for a caller that divides many messages: entry k is R of the byte k.
 #[tactic(auto, using(crate::proofs::Table::table_is))]
@@ -78,5 +80,5 @@ pub fn parity_by_bytes(field: &[u8]) -> Result<u32, Refusal>
     ensures { said result ≡ parity_answer field.now }
 {
     refuse_unless(is_field_length(field.len()), Refusal::WrongLength)?;
-    Ok(by_byte_table(&TABLE, field))
+    Ok(by_byte_table(&LENT_TABLE, field))
 }

@@ -17,7 +17,7 @@ pub fn uplink_overlay(a: u32) -> Result<u32, Refusal>
 }
 
 // The upper half of the sum of A's shifts by the powers of G. Those by 24 down to 12, each one less, are summed by doubling how
-// many there are.
+// many there are. Here and in `address_of` 24 bits are a clause, and no `Register`: an address is none.
 #[tactic(auto, using(crate::proofs::Shifts::overlay_by_shifts), unfolding(crate::proofs::Shifts::overlay_shifts, crate::proofs::Shifts::eight, crate::proofs::Shifts::four, crate::proofs::Shifts::two))]
 fn overlay_of(a: u32) -> u32
     requires { a < 2 ^ 24 }

@@ -10,7 +10,7 @@ use message::is_field_length;
 use outcome::{Refusal, refuse_unless};
 
 // The row for bit 73 is the one of ATC-40's errata sheet.
-static ROWS: [u32; 88] = [
+const ROWS: [u32; 88] = [
     0x3935EA, 0x1C9AF5, 0xF1B77E, 0x78DBBF, 0xC397DB, 0x9E31E9, 0xB0E2F0, 0x587178, 0x2C38BC,
     0x161C5E, 0x0B0E2F, 0xFA7D13, 0x82C48D, 0xBE9842, 0x5F4C21, 0xD05C14, 0x682E0A, 0x341705,
     0xE5F186, 0x72F8C3, 0xC68665, 0x9CB936, 0x4E5C9B, 0xD8D449, 0x939020, 0x49C810, 0x24E408,
@@ -22,6 +22,8 @@ static ROWS: [u32; 88] = [
     0xF91024, 0x7C8812, 0x3E4409, 0xE0D800, 0x706C00, 0x383600, 0x1C1B00, 0x0E0D80, 0x0706C0,
     0x038360, 0x01C1B0, 0x00E0D8, 0x00706C, 0x003836, 0x001C1B, 0xFFF409,
 ];
+// The same where it is lent: a `const` is copied at each use.
+static LENT_ROWS: [u32; 88] = ROWS;
 
 // The sum of the rows for the ones of a byte, whose first bit has the row `at`.
 #[tactic(auto, using(crate::proofs::Fields::row_steps))]
@@ -63,5 +65,5 @@ pub fn parity_by_rows(field: &[u8]) -> Result<u32, Refusal>
     ensures { said result ≡ parity_answer field.now }
 {
     refuse_unless(is_field_length(field.len()), Refusal::WrongLength)?;
-    Ok(by_rows(&ROWS, field))
+    Ok(by_rows(&LENT_ROWS, field))
 }

@@ -14,8 +14,8 @@ ghost use Rattle.encoder.specs.Seals.{said, word_bytes, with_parity, seal_outcom
 
 use outcome::{Refusal, refuse_unless};
 
-// Writes the parity field of a reply for the word: R + word. Message and word stay two parameters, here and below: the one is lent to be
-// written, and the other may be any number.
+// Writes the parity field of a reply for the word: R + word. Message and word stay two parameters, here and below: the one is lent
+// to be written, and what the two are together is said by the rows of `check` alone.
 #[tactic(auto, using(outcome::proofs::Laws::writing, crate::proofs::Sealing::accepting), unfolding(crate::specs::Seals::reply_after, crate::specs::Seals::reply_seal, crate::specs::Seals::reply_parity))]
 pub fn seal_reply(m: &mut [u8], word: u32) -> Result<(), Refusal>
     ensures result_value { said result ≡ seal_outcome m.old word }

@@ -10,10 +10,10 @@ use lib.Dec.{ltb, eqb}
 use borrow.Author.Tests.{ltb-true, ltb-false}
 use Rattle.text.specs.Ascii.{ascii, space}
 use Rattle.text.proofs.Laws.{no_more, picked, passed_over}
-use Rattle.reading.specs.Lines.{columns, before}
+use Rattle.reading.specs.Lines.{columns, before, behind}
 use Rattle.reading.proofs.Laws.{first-column, split-column, whole-column}
 use Rattle.shift_report.specs.Tally.{Row, same_text, column_at, label}
-use Rattle.shift_report.specs.Printed.{behind, row_of}
+use Rattle.shift_report.specs.Printed.{row_of}
 use Rattle.std.specs.Cmp.Lexicographic.{pointwise}
 use Rattle.shift_report.proofs.Same.{pointwise-same}
 

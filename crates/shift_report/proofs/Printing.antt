@@ -9,14 +9,14 @@ use lib.ListN.{length, drop}
 use Rattle.text.specs.Ascii.{ascii, space, line_feed}
 use Rattle.text.specs.Digits.{hex_text, decimal_text}
 use Rattle.text.proofs.Laws.{above, above-cons, above-append, above_lower, hex_above, decimal-above, no_more}
-use Rattle.reading.specs.Lines.{lines, columns, before}
+use Rattle.reading.specs.Lines.{lines, columns, before, behind}
 use Rattle.reading.proofs.Laws.{column_alone, column_then, line_then, split_line, no_line_left}
 use Rattle.verdicts.specs.Columns.{lacking, spaced}
 use Rattle.verdicts.proofs.Laws.{spaced-nil, spaced-cons}
 use Rattle.report.specs.Sift.{answer_columns, output_lines, sift_output}
 use Rattle.report.proofs.Laws.{no_output, output_line_lem, output_read}
 use Rattle.shift_report.specs.Tally.{Row, rows, page, tally_output}
-use Rattle.shift_report.specs.Printed.{behind, row_of, rows_in, printed_rows}
+use Rattle.shift_report.specs.Printed.{row_of, rows_in, printed_rows}
 use Rattle.shift_report.proofs.Pages.{output_page, output_too_long}
 use Rattle.shift_report.proofs.Answered.{Kind, kind_row, row-shown}
 use Rattle.shift_report.proofs.Answered.Kind.{is_clean, is_sole, is_several, is_dense, is_no_fit, is_refused, is_malformed}

@@ -1,12 +1,8 @@
 -- The rows of a text that sift printed, as they are counted there.
-use Rattle.std.specs.Prelude.{ℕ, ◌+◌, List, map, length, drop}
+use Rattle.std.specs.Prelude.{ℕ, List, map, drop}
 use Rattle.text.specs.Ascii.{line_feed}
-use Rattle.reading.specs.Lines.{lines, columns, before}
+use Rattle.reading.specs.Lines.{lines, columns, behind}
 use Rattle.shift_report.specs.Tally.{Row}
-
--- what stands behind the first byte b
-abbrev pub behind : ℕ → List ℕ → List ℕ
-behind b s = drop (length (before b s) + 1) s
 
 -- the columns of a line after its number
 unfoldable pub row_of : List ℕ → Row
