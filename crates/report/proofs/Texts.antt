@@ -3,8 +3,7 @@ use mathlib.Core.Path.{◌≡◌, refl, sym, ap, ap₂, ◌∙◌}
 use mathlib.Core.List.{List, [], ◌∷◌, ◌++◌, append_assoc, append-nil}
 use Prim.Native.Nat.{ℕ, ◌+◌, ◌*◌, ◌%◌, ◌^◌, ◌<◌, ◌≤◌}
 use native.Mathlib.Omega.{arith}
-use lib.ListN.{length, take, drop, length-append}
-use lib.Seq.{take_at}
+use lib.ListN.{length, length-append}
 use lib.Dec.{leb}
 use borrow.Author.Tests.{le-leb, lt-leb}
 use mathlib.Core.Bool.{true, false}
@@ -13,7 +12,7 @@ use Rattle.reading.specs.Lines.{columns, lines}
 use Rattle.text.specs.Output.{Place, append}
 use Rattle.text.specs.Digits.{decimal_text}
 use Rattle.reading.specs.Digits.{hex_bytes, hex_number, decimal_number}
-use Rattle.text.proofs.Laws.{part_done, append-append, append-fits, decimal-length, hex_text-length, picked, passed_over}
+use Rattle.text.proofs.Laws.{part_done, append-append, at_start, decimal-length, hex_text-length, picked, passed_over}
 use Rattle.reading.proofs.Laws.{columns_size, columns_size_lem, lines_size, lines_size-le, length-le-lines_size, hex_number-whole, decimal_number-whole}
 use Rattle.request.specs.Requests.{well_formed}
 use Rattle.request.proofs.Laws.{message-fits, confidence-fits, word_size, limit-size}
@@ -60,16 +59,6 @@ request_fits m c w l e = (
   hex_number-whole w (omega (arith, word_size m c w l e)),
   decimal_number-whole l (omega (arith, limit-size m c w l e)),
 )
-
--- a text that fits at the start of a buffer, and the part of the buffer that it takes
-pub at_start : (s buf : List ℕ) → length s ≤ length buf
-    → (append (buf, 0) s ≡ (s ++ drop (length s) buf, length s)) × (length s ≤ length (s ++ drop (length s) buf)) × (take (length s) (s ++ drop (length s) buf) ≡ s)
-at_start s buf h =
-    let end : 0 + length s ≡ length s = omega arith in (
-      append-fits s buf 0 (omega arith) ∙ ap (λ (k : ℕ). (s ++ drop k buf, k)) end,
-      omega (arith, length-append s (drop (length s) buf)),
-      take_at s (drop (length s) buf) (length s) refl,
-    )
 
 pub ruleset requested = (request_fits, at_start)
 

@@ -29,7 +29,7 @@ pub use columns::write_answer;
 // The output stands at the start of the buffer, whose other bytes stay; the answer is its length, and not the part itself, which
 // would keep the buffer lent and say nothing of its other bytes. The third promise
 // follows from the first two: with it a caller lends `&out[..r]` without a proof.
-#[tactic(auto, using(crate::proofs::Texts::at_start))]
+#[tactic(auto, using(text::proofs::Laws::at_start))]
 pub fn sift(input: &[u8], out: &mut [u8; 1572928]) -> usize
     ensures value { result ≡ length (sift_output input.now) }
     ensures out_after { out.new ≡ sift_output input.now ++ drop (length (sift_output input.now)) out.old }

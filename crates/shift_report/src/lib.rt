@@ -19,7 +19,7 @@ mod page;
 //
 // The output stands at the start of the buffer, whose other bytes stay; the answer is its length. The third promise
 // follows from the first two: with it a caller lends `&out[..r]` without a proof.
-#[tactic(auto, using(report::proofs::Laws::at_start))]
+#[tactic(auto, using(text::proofs::Laws::at_start))]
 pub fn tally(input: &[u8], out: &mut [u8; 192]) -> usize
     ensures value { result ≡ length (tally_output input.now) }
     ensures out_after { out.new ≡ tally_output input.now ++ drop (length (tally_output input.now)) out.old }

@@ -31,7 +31,7 @@ pub struct State {
 impl State {
     // The header, and the state before the first piece. The answer has the number of bytes at the start of the buffer: a length, here and
     // below, as report::sift answers.
-    #[tactic(auto, using(report::proofs::Laws::at_start))]
+    #[tactic(auto, using(text::proofs::Laws::at_start))]
     pub fn begin(out: &mut [u8; 255616]) -> (State, usize)
         ensures state_value { held_by result.0 ≡ (0, []) }
         ensures taken_value { result.1 ≡ length header }
@@ -51,7 +51,7 @@ impl State {
     // Answers the lines that end in a piece of at most 4,096 bytes. The output stands at the start of the buffer, whose other
     // bytes stay; the answer is its length. A call that is refused leaves all as it was. The last promise follows from the
     // others: with it a caller lends `&out[..taken]` without a proof.
-    #[tactic(auto, using(report::proofs::Laws::at_start, crate::proofs::Refusing::refusing, std::proofs::lemmas::Grind::common_steps))]
+    #[tactic(auto, using(text::proofs::Laws::at_start, crate::proofs::Refusing::refusing, std::proofs::lemmas::Grind::common_steps))]
     pub fn feed(&mut self, piece: &[u8], out: &mut [u8; 255616]) -> Result<usize, Refused>
         ensures refused_value { MatchResult result (λ _. is_refused self.old.ended piece.now ≡ false) (λ _. is_refused self.old.ended piece.now ≡ true) }
         ensures refused_by { IfErr result (λ r. refusal_of self.old.ended piece.now ≡ Some r) }
@@ -72,7 +72,7 @@ impl State {
     }
 
     // Answers the last line, where it has a byte and no line feed.
-    #[tactic(auto, using(report::proofs::Laws::at_start, crate::proofs::Refusing::refusing, std::proofs::lemmas::Grind::common_steps))]
+    #[tactic(auto, using(text::proofs::Laws::at_start, crate::proofs::Refusing::refusing, std::proofs::lemmas::Grind::common_steps))]
     pub fn finish(&self, out: &mut [u8; 255616]) -> Result<usize, Refused>
         ensures refused_value { MatchResult result (λ _. is_refused self.now.ended [] ≡ false) (λ _. is_refused self.now.ended [] ≡ true) }
         ensures refused_by { IfErr result (λ r. refusal_of self.now.ended [] ≡ Some r) }

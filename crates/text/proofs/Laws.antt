@@ -1,7 +1,7 @@
 -- The laws that the crates above cite: a list from a place on and a pick by a test, appending to a buffer, how many
 -- digits a text has, and texts that a given byte does not part.
 pub use Rattle.text.proofs.Parts.{next_byte, no_more, picked, passed_over}
-pub use Rattle.text.proofs.Appending.{append-none, and_then, appends_both, appends_same, from_start, part_done, all_done, append-fits, at-start, taken_part, taken-le, taken_size}
+pub use Rattle.text.proofs.Appending.{append-none, part_done, at_start, taken-le}
 pub use Rattle.text.proofs.Spelling.{hex_text-length, decimal-length}
 unfoldable pub use Rattle.text.proofs.Above.{above}
 pub use Rattle.text.proofs.Above.{above-cons, above-parts, above-append, above_lower, hex_above, decimal-above}
@@ -9,5 +9,5 @@ pub use Rattle.text.proofs.Above.{above-cons, above-parts, above-append, above_l
 pub use Rattle.text.proofs.Appending.{appending}
 pub use Rattle.text.proofs.Spelling.{ten_digits}
 -- ---- end theorems, which no proof above cites
-pub use Rattle.text.proofs.Appending.{append-append}
+pub use Rattle.text.proofs.Appending.{append-append, append-fits}
 pub use Rattle.text.proofs.Spelling.{one-digit, more_digits}
