@@ -1,12 +1,18 @@
 // The calls by their names. A line without the form of a call is malformed.
 use crate::answers::put;
-use console::{bit, bytes, number, word};
+use console::{Answering, bit, bytes, number, word};
 use text::Output;
 
-// Makes the call of a line and appends the columns of its answer.
-pub(crate) fn answer(columns: &[&[u8]], out: &mut Output<'_>) {
-    if call(columns, out).is_none() {
-        out.put_bytes(b" malformed - -");
+// The calls keep nothing from line to line.
+#[derive(Drop)]
+pub(crate) struct Calls;
+
+impl Answering for Calls {
+    // Makes the call of a line and appends the columns of its answer.
+    fn answer(&mut self, columns: &[&[u8]], out: &mut Output<'_>) {
+        if call(columns, out).is_none() {
+            out.put_bytes(b" malformed - -");
+        }
     }
 }
 

@@ -19,6 +19,7 @@
 mod answers;
 mod calls;
 
+use calls::Calls;
 use console::Console;
 
 // The longest answered line: a number of five digits, ` refused 1 `, a message of 64 digits and a line feed.
@@ -32,5 +33,5 @@ fn main(rt: HostRuntime) {
         errors: rt.stderr(),
     };
     // what went wrong has been said
-    let _ = console.answer_lines(LONGEST, calls::answer);
+    let _ = console.answer_lines(LONGEST, &mut Calls);
 }

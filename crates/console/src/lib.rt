@@ -6,5 +6,5 @@ mod lines;
 mod streams;
 
 pub use arguments::{bit, bytes, number, word};
-pub use lines::columns;
+pub use lines::{Answering, columns};
 pub use streams::{Console, LIMIT, UNREAD, UNWRITTEN};

@@ -22,42 +22,45 @@ pub fn columns<'a>(line: &'a [u8]) -> ArrayVec<&'a [u8], 8>
     columns
 }
 
+// What a program makes of a line: it appends what the line is answered. A trait, and no closure: that a closure can be called would be
+// asked of whoever lends it.
+pub trait Answering {
+    fn answer(&mut self, columns: &[&[u8]], out: &mut Output<'_>);
+}
+
 impl<R: Read, W: Write, E: Write> Console<R, W, E> {
-    // Reads the input and writes for each line its number from 1, what `answer` appends for its columns, and a line feed. An
+    // Reads the input and writes for each line its number from 1, what `answering` appends for its columns, and a line feed. An
     // answered line has at most `longest` bytes. An input above the limit is too long, and that is all that is written. Of a
-    // shorter one the promise says nothing, since it knows nothing of `answer`.
-    pub fn answer_lines<F: FnMut(&[&[u8]], &mut Output<'_>)>(
+    // shorter one the promise says nothing, since it knows nothing of what is appended.
+    pub fn answer_lines<A: Answering>(
         &mut self,
         longest: usize,
-        answer: F,
+        answering: &mut A,
     ) -> io::Result<()>
-        requires { F.IsAlwaysCallable answer }
         ensures { OnOk result (IfSome (R.remaining self.old.input) (λ xs. 65536 < length xs → Appends (W.contents self.old.output) (W.contents self.new.output) (ascii "too long\n"))) }
     {
         let mut bytes = [0u8; 65537];
         let read = self.read(&mut bytes, "answered");
         if read.size <= LIMIT {
-            self.answer_input(&bytes[..read.size], longest, answer)?;
+            self.answer_input(&bytes[..read.size], longest, answering)?;
         } else {
             self.write(b"too long\n")?;
         }
         read.ended
     }
 
-    fn answer_input<F: FnMut(&[&[u8]], &mut Output<'_>)>(
+    fn answer_input<A: Answering>(
         &mut self,
         input: &[u8],
         longest: usize,
-        mut answer: F,
-    ) -> io::Result<()>
-        requires { F.IsAlwaysCallable answer }
-    {
+        answering: &mut A,
+    ) -> io::Result<()> {
         let mut buffer = [0u8; 65536];
         let mut out = Output::new(&mut buffer);
         // a cast, since Rust has no From of a usize for a u64
         for (number, line) in (1..=LIMIT as u64).zip(Lines::new(input)) {
             out.put_decimal(number);
-            answer(columns(line).as_slice(), &mut out);
+            answering.answer(columns(line).as_slice(), &mut out);
             out.put_byte(b'\n');
             if out.buffer.len() < out.taken.saturating_add(longest) {
                 self.flush(&mut out)?;

@@ -2,15 +2,32 @@
 ghost use Rattle.std.specs.Prelude.{◌≡◌, ◌<◌, ◌≤◌, length, take, IfSome, OnOk};
 ghost use Rattle.std.specs.Io.KnownBytes.{Appends, Consumes, IsAtEnd};
 
+use arrayvec::ArrayString;
 use intake::Filled;
-use std::fmt::Display;
-use std::io;
+use std::fmt::{Display, Write as _};
 use std::io::{Read, Write};
+use std::{fmt, io};
 
 // What is said where a stream fails.
 pub const UNREAD: &str = "standard input could not be read to its end";
 
 pub const UNWRITTEN: &str = "standard output could not be written to its end";
+
+// That the input is too long, and what becomes of no line of it.
+#[derive(Clone, Copy)]
+struct TooLong<'a> {
+    done: &'a str,
+}
+
+impl Display for TooLong<'_> {
+    fn fmt<W: fmt::Write>(&self, f: &mut fmt::Formatter<W>) -> fmt::Result {
+        write!(
+            f,
+            "the input is above 65,536 bytes, too long: no line is {}",
+            self.done
+        )
+    }
+}
 
 // The longest input that is taken has as many bytes.
 pub const LIMIT: usize = 65536;
@@ -34,7 +51,7 @@ impl<R: Read, W: Write, E: Write> Console<R, W, E> {
     {
         let read = intake::read_full(&mut self.input, bytes);
         if LIMIT < read.size {
-            self.say_too_long(done);
+            self.say(&TooLong { done });
         } else if read.ended.is_err() {
             self.say(&UNREAD);
         }
@@ -54,22 +71,17 @@ impl<R: Read, W: Write, E: Write> Console<R, W, E> {
         written
     }
 
-    fn say_too_long(&mut self, done: &str)
-        ensures input { self.new.input ≡ self.old.input }
-        ensures output { self.new.output ≡ self.old.output }
-    {
-        let _ = writeln!(
-            self.errors,
-            "{}: the input is above 65,536 bytes, too long: no line is {done}",
-            self.program
-        );
-    }
-
-    // Whether standard error takes it can no longer be said anywhere; so nothing is promised of what it holds.
+    // In one write, so that no other program's words come between. Whether standard error takes it can no longer be said anywhere; so
+    // nothing is promised of what it holds. A program says at most 110 bytes; what is longer than the line is written part by part.
+    #[cold]
     pub fn say<D: Display>(&mut self, what: &D)
         ensures input { self.new.input ≡ self.old.input }
         ensures output { self.new.output ≡ self.old.output }
     {
-        let _ = writeln!(self.errors, "{}: {what}", self.program);
+        let mut line = ArrayString::<160>::new();
+        let _ = match writeln!(line, "{}: {what}", self.program) {
+            Ok(()) => self.errors.write_all(line.as_bytes()),
+            Err(_) => writeln!(self.errors, "{}: {what}", self.program),
+        };
     }
 }

@@ -45,6 +45,7 @@ pub(crate) fn put_held(held: u16, segments: &[u8; 160], out: &mut Output<'_>) {
     out.put_byte(b' ');
     if held == 0 {
         out.put_byte(b'-');
+        return;
     }
     for (number, segment) in (0u8..16).zip(segments.chunks_exact(10)) {
         if uplink_elm::is_held(held, number) {

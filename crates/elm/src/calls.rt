@@ -1,6 +1,6 @@
 // The calls by their names. A line without the form of a call is malformed.
 use crate::answers::{put_answer, put_held, put_sent};
-use console::{bytes, number, word};
+use console::{Answering, bytes, number, word};
 use text::Output;
 use uplink_elm::Receiver;
 
@@ -16,14 +16,6 @@ impl End {
         End {
             receiver: uplink_elm::fresh(),
             segments: [0; 160],
-        }
-    }
-
-    // Makes the call of a line and appends the columns of its answer.
-    pub(crate) fn answer(&mut self, columns: &[&[u8]], out: &mut Output<'_>) {
-        if self.call(columns, out).is_none() {
-            out.put_bytes(b" malformed - - -");
-            self.put_held(out);
         }
     }
 
@@ -61,6 +53,16 @@ impl End {
 
     fn put_held(&self, out: &mut Output<'_>) {
         put_held(self.receiver.held, &self.segments, out);
+    }
+}
+
+impl Answering for End {
+    // Makes the call of a line and appends the columns of its answer.
+    fn answer(&mut self, columns: &[&[u8]], out: &mut Output<'_>) {
+        if self.call(columns, out).is_none() {
+            out.put_bytes(b" malformed - - -");
+            self.put_held(out);
+        }
     }
 }
 

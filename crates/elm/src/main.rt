@@ -33,5 +33,5 @@ fn main(rt: HostRuntime) {
     };
     let mut end = End::new();
     // what went wrong has been said
-    let _ = console.answer_lines(LONGEST, |columns, out| end.answer(columns, out));
+    let _ = console.answer_lines(LONGEST, &mut end);
 }

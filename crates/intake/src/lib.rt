@@ -12,7 +12,7 @@ use std::io::Read;
 
 // How many bytes stand at the start of the buffer, and the error of the read that failed after them. The size counts in both
 // cases, so it stands beside the `Result`, and not in it.
-#[derive(Debug, Drop)]
+#[derive(Clone, Copy, Debug)]
 pub struct Filled {
     pub size: usize,
     pub ended: io::Result<()>,

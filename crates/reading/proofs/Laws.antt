@@ -3,8 +3,9 @@ pub use Rattle.reading.proofs.Splitting.{before-le, before-take, first-column, s
 unfoldable pub use Rattle.reading.proofs.Splitting.{columns_size, lines_size, Lacks}
 pub use Rattle.reading.proofs.Splitting.{columns_size_lem, lines_size-le, length-le-lines_size, lacks_none, lacks_more, line_ends, no_line, last_line}
 pub use Rattle.reading.proofs.Values.{decimal-column, hex_number-whole, decimal_number-whole, hex_bytes-length}
+pub use Rattle.reading.proofs.Splitting.{next-line}
 -- ---- for tactics
 pub use Rattle.reading.proofs.Splitting.{column_steps}
 -- ---- end theorems, which no proof above cites
 pub use Rattle.reading.proofs.Values.{digit-value-lt}
-pub use Rattle.reading.proofs.Splitting.{next-line, line-within, line_taken}
+pub use Rattle.reading.proofs.Splitting.{line-within, line_taken}

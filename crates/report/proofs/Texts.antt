@@ -1,19 +1,19 @@
 -- The texts that the functions append, put together, and their lengths.
 use mathlib.Core.Path.{◌≡◌, refl, sym, ap, ap₂, ◌∙◌}
 use mathlib.Core.List.{List, [], ◌∷◌, ◌++◌, append_assoc, append-nil}
-use Prim.Native.Nat.{ℕ, ◌+◌, ◌*◌, ◌%◌, ◌^◌, ◌<◌, ◌≤◌}
+use Prim.Native.Nat.{ℕ, ◌+◌, ◌-◌, ◌*◌, ◌%◌, ◌^◌, ◌<◌, ◌≤◌}
 use native.Mathlib.Omega.{arith}
-use lib.ListN.{length, length-append}
+use lib.ListN.{length, take, drop, length-append}
 use lib.Dec.{leb}
 use borrow.Author.Tests.{le-leb, lt-leb}
 use mathlib.Core.Bool.{true, false}
 use Rattle.text.specs.Ascii.{ascii, line_feed, space}
-use Rattle.reading.specs.Lines.{columns, lines}
+use Rattle.reading.specs.Lines.{before, columns, lines}
 use Rattle.text.specs.Output.{Place, append}
 use Rattle.text.specs.Digits.{decimal_text}
 use Rattle.reading.specs.Digits.{hex_bytes, hex_number, decimal_number}
 use Rattle.text.proofs.Laws.{part_done, append-append, at_start, decimal-length, hex_text-length, picked, passed_over}
-use Rattle.reading.proofs.Laws.{columns_size, columns_size_lem, lines_size, lines_size-le, length-le-lines_size, hex_number-whole, decimal_number-whole}
+use Rattle.reading.proofs.Laws.{next-line, columns_size, columns_size_lem, lines_size, lines_size-le, length-le-lines_size, hex_number-whole, decimal_number-whole}
 use Rattle.request.specs.Requests.{well_formed}
 use Rattle.request.proofs.Laws.{message-fits, confidence-fits, word_size, limit-size}
 use Rattle.verdicts.specs.Columns.{spaced}
@@ -122,21 +122,28 @@ pub none-size : (n : ℕ) (ls : List (List ℕ)) → ls ≡ [] → (length (outp
 unfolding output_lines lines_size
 none-size n ls e = (ap (λ (xs : List (List ℕ)). length (output_lines n xs)) e, ap lines_size e)
 
+-- the text of the lines of an input from a place on, where there is one
+pub next_output : (input : List ℕ) (at k n : ℕ) → at < length input → k ≡ length (before line_feed (take (length input - at) (drop at input)))
+    → output_lines n (lines (drop at input))
+    ≡ output_line n (take k (take (length input - at) (drop at input))) ++ output_lines (n + 1) (lines (drop (at + k + 1) input))
+unfolding output_lines
+next_output input at k n h e = ap (output_lines n) (next-line input at k e h)
+
 -- one line more: l, the first of ls, has the number k; the others are numbered on from m
 module _ (n k m : ℕ) (l : List ℕ) (ls ms : List (List ℕ)) (e : ls ≡ l ∷ ms) (ek : k ≡ n) (em : m ≡ n + 1) where
-  next_output : output_lines n ls ≡ output_line k l ++ output_lines m ms
+  next-text : output_lines n ls ≡ output_line k l ++ output_lines m ms
   unfolding output_lines
-  next_output =
+  next-text =
       ap (output_lines n) e
       ∙ ap (λ (x : ℕ). output_line x l ++ output_lines (n + 1) ms) (sym ek)
       ∙ ap (λ (x : ℕ). output_line k l ++ output_lines x ms) (sym em)
 
   pub next-put : (p q : Place) → q ≡ append p (output_line k l) → append p (output_lines n ls) ≡ append q (output_lines m ms)
-  next-put p q f = sym (part_done p q (output_line k l) (output_lines m ms) (output_lines n ls) f next_output)
+  next-put p q f = sym (part_done p q (output_line k l) (output_lines m ms) (output_lines n ls) f next-text)
 
   pub next-size : (length (output_lines n ls) ≡ length (output_line k l) + length (output_lines m ms)) × (lines_size ls ≡ length l + 1 + lines_size ms) × (length ls ≡ length ms + 1)
   unfolding lines_size
-  next-size = (ap length next_output ∙ length-append (output_line k l) (output_lines m ms), ap lines_size e, omega (arith, ap length e))
+  next-size = (ap length next-text ∙ length-append (output_line k l) (output_lines m ms), ap lines_size e, omega (arith, ap length e))
 
 pub ruleset numbering = (none_left, none-size, next-put, next-size, lines_size-le)
 

@@ -2,11 +2,11 @@
 use mathlib.Core.Path.{◌≡◌, refl, sym, ap, ◌∙◌, subst}
 use mathlib.Core.Bool.{Bool, true, false, not, cond, ◌||◌}
 use mathlib.Core.List.{List, []}
-use Prim.Native.Nat.{ℕ, ◌+◌, ◌-◌, ◌^◌, min, ◌≤◌, ◌<◌}
+use Prim.Native.Nat.{ℕ, ◌+◌, ◌-◌, ◌≤◌, ◌<◌}
 use native.Mathlib.Omega.{arith}
 use lib.Dec.{ltb}
 use lib.ListN.{length, set}
-use borrow.Author.Tests.{ltb-true}
+use borrow.Author.Tests.{ltb-true, lt-ltb}
 use Rattle.std.specs.Prelude.{position, Some, None, Result, Ok}
 use Rattle.outcome.specs.declared.Refusal.{Refusal}
 use Rattle.outcome.specs.Outcomes.{Outcome, done, unless}
@@ -17,6 +17,7 @@ use Rattle.rollcall_table.specs.declared.Record.{Record}
 use Rattle.rollcall_table.specs.declared.Sighting.{Sighting}
 use Rattle.rollcall_table.specs.Table.{largest, right_lengths, unmarked_all, record_at, place_at, is_sound, holds, holder, free_place, is_in, has_room, unmarked, record_of, position as position_of}
 use Rattle.rollcall_table.specs.Standing.{record_beats}
+use Rattle.rollcall_table.specs.Checks.{raised_of}
 use Rattle.rollcall_table.proofs.Laws.{below-count, parts, free_fewer, free_position, in-there}
 use Rattle.rollcall_plans.specs.declared.Spot.{Spot}
 use Rattle.rollcall_plans.specs.declared.Plan.{Plan}
@@ -94,7 +95,7 @@ renewal rs ps n h r false l = record { within = tt; says = refl; counts = refl; 
 
 -- what a sound table with a free place gives
 record Room (rs : List Record) (ps : List ℕ) (n f : ℕ) : Type 0 where
-  pub raised : min (n + 1) (2 ^ 64 - 1) ≡ n + 1
+  pub raised : raised_of n ≡ n + 1
   pub free : f < length rs
   pub small : f < 65536
   pub fits : n < length ps
@@ -105,7 +106,8 @@ room_of rs ps n e g =
     let h : free_place rs < length rs = ltb-true (free_place rs) (length rs) g in
     let fewer : n < length rs = subst (λ (k : ℕ). k < length rs) p.live (free_fewer rs h) in
     let few : length rs ≤ largest = p.few in
-    record { raised = omega arith; free = h; small = omega arith; fits = subst (λ (k : ℕ). n < k) p.same fewer }
+    let below : n < largest = omega arith in
+    record { raised = ap (λ (t : Bool). cond t (n + 1) n) (lt-ltb n largest below); free = h; small = omega arith; fits = subst (λ (k : ℕ). n < k) p.same fewer }
 
 pub adds : (rs : List Record) (ps : List ℕ) (n : ℕ) (s : Sighting) → is_word s.address ≡ true → is_sound rs ps n ≡ true
     → (spot_of rs ps n s.address ≡ spot_of rs ps n s.address)

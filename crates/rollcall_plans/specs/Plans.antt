@@ -1,5 +1,5 @@
 -- What the private functions of the roll-call table hand to each other: where an address stands, and what a call is to change.
-use Rattle.std.specs.Prelude.{ℕ, ◌+◌, ◌-◌, ◌≡◌, ◌≤◌, ◌<◌, ◌^◌, min, true, cond, ◌&&◌, List, ltb, length, set, Option, Some, None, Result, Ok, Err, ⊤}
+use Rattle.std.specs.Prelude.{ℕ, ◌+◌, ◌-◌, ◌≡◌, ◌≤◌, ◌<◌, true, cond, ◌&&◌, List, ltb, length, set, Option, Some, None, Result, Ok, Err, ⊤}
 use Rattle.outcome.specs.declared.Refusal.{Refusal}
 use Rattle.outcome.specs.declared.Refusal.TheVariants.{TableFull}
 use Rattle.outcome.specs.Outcomes.{Outcome}
@@ -10,6 +10,7 @@ use Rattle.rollcall_table.specs.declared.Record.{Record}
 use Rattle.rollcall_table.specs.declared.Sighting.{Sighting}
 use Rattle.rollcall_table.specs.declared.table.Table.{Table}
 use Rattle.rollcall_table.specs.Standing.{record_beats}
+use Rattle.rollcall_table.specs.Checks.{raised_of}
 use Rattle.rollcall_table.specs.Table.{record_at, place_at, is_sound, holds, holder, is_in, position, unmarked, unmarked_all}
 use Rattle.rollcall_plans.specs.declared.Rolled.{Rolled}
 use Rattle.rollcall_plans.specs.declared.Rolled.TheVariants.{Cleared, Added, Renewed, Removed, Found, Absent, Held}
@@ -72,9 +73,9 @@ removal_of k (Some l) n = record { answer = Removed; count = n - 1; change = Lef
 abbrev pub renewal_of : Placed → ℕ → Record → Plan
 renewal_of l n r = cond (record_beats r l.entry) (record { answer = Renewed; count = n; change = Replaced (record { place = l.place; entry = r }) }) (idle_of Held n)
 
--- A new record at the free place f, which enters the list at k. A count that does not fit a usize is left.
+-- A new record at the free place f, which enters the list at k.
 abbrev pub entrance_of : ℕ → ℕ → ℕ → Record → Plan
-entrance_of k f n r = record { answer = Added; count = min (n + 1) (2 ^ 64 - 1); change = Entered k (record { place = f; entry = r }) }
+entrance_of k f n r = record { answer = Added; count = raised_of n; change = Entered k (record { place = f; entry = r }) }
 
 -- The same where a place is free, or the refusal of a full table.
 abbrev pub entrance_at : ℕ → Option ℕ → ℕ → Record → Result Plan Refusal

@@ -4,7 +4,7 @@ ghost use Rattle.rollcall_plans.specs.Plans.{addition_of, answer_of, clearing_pl
 
 use crate::{Change, Placed, Plan, Reply, Rolled, Spot};
 use outcome::Refusal;
-use rollcall_table::Record;
+use rollcall_table::{Record, lowered, raised};
 
 impl Spot {
     // The spot of an address, by the record that the list names at the position where it stands or is to stand.
@@ -46,7 +46,7 @@ pub fn removal(spot: Spot, count: usize) -> Plan
             let entry = held.entry.unmarked();
             Plan {
                 answer: Rolled::Removed,
-                count: count.saturating_sub(1),
+                count: lowered(count),
                 change: Change::Left(spot.at, Placed { entry, ..held }),
             }
         }
@@ -93,7 +93,7 @@ fn entrance(at: usize, put: Placed, count: usize) -> Plan
 {
     Plan {
         answer: Rolled::Added,
-        count: count.saturating_add(1),
+        count: raised(count),
         change: Change::Entered(at, put),
     }
 }

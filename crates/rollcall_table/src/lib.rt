@@ -8,7 +8,7 @@ mod records;
 mod standing;
 mod table;
 
-pub use records::blank;
+pub use records::{blank, lowered, raised};
 pub use table::{Table, check_lengths};
 
 // The largest length of a table.

@@ -1,8 +1,9 @@
-// What is decided about single records.
-ghost use Rattle.std.specs.Prelude.{◌≡◌};
+// What is decided about single records, and the count after one leaves or enters.
+ghost use Rattle.std.specs.Prelude.{◌≡◌, ◌-◌};
 ghost use Rattle.rollcall_table.specs.Table.{blank as blank_record, holds, is_next, record_of, unmarked};
+ghost use Rattle.rollcall_table.specs.Checks.{raised_of};
 
-use crate::{Grade, Record, Sighting};
+use crate::{Grade, LARGEST, Record, Sighting};
 
 // What stands where there is no record. By a name, and not by `Default`: no value of a record is the one to be expected.
 pub fn blank() -> Record
@@ -56,4 +57,18 @@ impl From<Sighting> for Record {
             grade: s.grade,
         }
     }
+}
+
+// The count after a removal.
+pub fn lowered(count: usize) -> usize
+    ensures { result ≡ count - 1 }
+{
+    count.saturating_sub(1)
+}
+
+// The count after a new address; from the largest length on it stays as it is.
+pub fn raised(count: usize) -> usize
+    ensures { result ≡ raised_of count }
+{
+    if count < LARGEST { count + 1 } else { count }
 }

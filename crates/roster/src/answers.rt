@@ -1,5 +1,7 @@
 // What a line is answered, column by column. It is not printed by `write!`: what a method of `Output` appends is proved, and of what
 // a formatter writes no contract says anything.
+ghost use Rattle.std.specs.Prelude.{◌≡◌, length};
+
 use rollcall::{Record, Reply, Rolled};
 use text::Output;
 
@@ -31,25 +33,46 @@ pub(crate) fn put_answer(reply: Reply, out: &mut Output<'_>) {
     }
 }
 
-// A space and the items of a list, parted by commas, `-` where it has none.
-pub(crate) fn put_list<T, F: FnMut(&T, &mut Output<'_>)>(
-    items: &[T],
-    out: &mut Output<'_>,
-    mut put: F,
-)
-    requires { F.IsAlwaysCallable put }
+// What a list that is shown is made of: a place or a record.
+pub(crate) trait Listed {
+    // Appends the item; the buffer keeps its length.
+    fn put(&self, out: &mut Output<'_>)
+        ensures { length out.new.buffer.now ≡ length out.old.buffer.now };
+}
+
+impl Listed for u16 {
+    #[tactic(auto, using(text::proofs::Laws::appends_length))]
+    fn put(&self, out: &mut Output<'_>) {
+        out.put_decimal(u64::from(*self));
+    }
+}
+
+impl Listed for Record {
+    fn put(&self, out: &mut Output<'_>) {
+        put_record(self, out);
+    }
+}
+
+// A space and the items of a list, parted by commas, `-` where it has none. The buffer keeps its length.
+#[tactic(auto, using(text::proofs::Laws::appends_length))]
+pub(crate) fn put_list<T: Listed>(items: &[T], out: &mut Output<'_>)
+    ensures { length out.new.buffer.now ≡ length out.old.buffer.now }
 {
     if items.is_empty() {
         out.put_bytes(b" -");
     }
     for (i, item) in items.iter().enumerate() {
         out.put_byte(if i == 0 { b' ' } else { b',' });
-        put(item, out);
+        item.put(out);
     }
 }
 
-// LIVE:ADDRESS:ALTITUDE:TIME:GRADE, the address in at least six digits.
-pub(crate) fn put_record(record: &Record, out: &mut Output<'_>) {
+// LIVE:ADDRESS:ALTITUDE:TIME:GRADE, the address in at least six digits. The buffer keeps its length, here and in the
+// functions below.
+#[tactic(auto, using(text::proofs::Laws::appends_length))]
+pub(crate) fn put_record(record: &Record, out: &mut Output<'_>)
+    ensures { length out.new.buffer.now ≡ length out.old.buffer.now }
+{
     out.put_bytes(if record.live { b"1:" } else { b"0:" });
     put_address(record.address, out);
     out.put_byte(b':');
@@ -57,25 +80,44 @@ pub(crate) fn put_record(record: &Record, out: &mut Output<'_>) {
 }
 
 // The digits above six have no leading zeros.
-fn put_address(address: u32, out: &mut Output<'_>) {
+#[tactic(auto, using(text::proofs::Laws::appends_length))]
+fn put_address(address: u32, out: &mut Output<'_>)
+    ensures { length out.new.buffer.now ≡ length out.old.buffer.now }
+{
     let [top, ..] = address.to_be_bytes();
+    put_top(top, out);
+    out.put_word(address);
+}
+
+#[tactic(auto, using(text::proofs::Laws::appends_length))]
+fn put_top(top: u8, out: &mut Output<'_>)
+    ensures { length out.new.buffer.now ≡ length out.old.buffer.now }
+{
     match top {
         0 => {}
         1..=9 => out.put_byte(b'0' + top),
         10..=15 => out.put_byte(b'A' + (top - 10)),
         _ => out.put_hex(&[top]),
     }
-    out.put_word(address);
 }
 
 // The altitude, the time and the grade.
-fn put_sighting(record: Record, between: u8, out: &mut Output<'_>) {
-    match record.altitude {
-        Some(feet) => out.put_signed(feet),
-        None => out.put_byte(b'-'),
-    }
+fn put_sighting(record: Record, between: u8, out: &mut Output<'_>)
+    ensures { length out.new.buffer.now ≡ length out.old.buffer.now }
+{
+    put_altitude(record.altitude, out);
     out.put_byte(between);
     out.put_decimal(record.time);
     out.put_byte(between);
     out.put_decimal(u64::from(u32::from(record.grade)));
+}
+
+#[tactic(auto, using(text::proofs::Laws::appends_length))]
+fn put_altitude(altitude: Option<i32>, out: &mut Output<'_>)
+    ensures { length out.new.buffer.now ≡ length out.old.buffer.now }
+{
+    match altitude {
+        Some(feet) => out.put_signed(feet),
+        None => out.put_byte(b'-'),
+    }
 }

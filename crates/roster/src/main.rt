@@ -34,5 +34,5 @@ fn main(rt: HostRuntime) {
     };
     let mut roster = Roster::new();
     // what went wrong has been said
-    let _ = console.answer_lines(LONGEST, |columns, out| roster.answer(columns, out));
+    let _ = console.answer_lines(LONGEST, &mut roster);
 }

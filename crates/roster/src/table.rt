@@ -1,8 +1,9 @@
 // The table that the lines set, call and print. The memory is fixed: a table of the longest lengths, of which a line asks for parts.
 // Arrays with their lengths beside them, and no `ArrayVec`: a line sets both lengths and the count apart, as the calls are given them.
-use crate::answers::{put_answer, put_list, put_record};
+use crate::answers::{put_answer, put_list};
 use crate::lines;
 use crate::lines::{Call, Line, TableLength};
+use console::Answering;
 use rollcall::{Record, Reply};
 use text::Output;
 
@@ -36,8 +37,37 @@ impl Roster {
         }
     }
 
+    // A table that is all zero and not live. What is past its lengths no line reads before the next reset.
+    fn reset(&mut self, records: TableLength, places: TableLength) {
+        self.records[..records.n].fill(rollcall_table::blank());
+        self.places[..places.n].fill(0);
+        self.sizes = Sizes {
+            records,
+            places,
+            count: 0,
+        };
+    }
+
+    fn call(&mut self, call: Call) -> Reply {
+        let Roster {
+            records,
+            places,
+            sizes,
+        } = self;
+        make(call, records, places, *sizes)
+    }
+
+    fn put(&self, answer: &[u8], out: &mut Output<'_>) {
+        out.put_bytes(answer);
+        out.put_byte(b' ');
+        // Rust has no From of a usize for a u64; nothing is lost.
+        out.put_decimal(self.sizes.count as u64);
+    }
+}
+
+impl Answering for Roster {
     // Does what a line asks for, and appends the answer, the count after the line, and what an answer of a call has more.
-    pub(crate) fn answer(&mut self, columns: &[&[u8]], out: &mut Output<'_>) {
+    fn answer(&mut self, columns: &[&[u8]], out: &mut Output<'_>) {
         match lines::read(columns) {
             None => self.put(b" malformed", out),
             Some(Line::Table { records, places }) => {
@@ -63,39 +93,10 @@ impl Roster {
             }
             Some(Line::Show) => {
                 self.put(b" shown", out);
-                put_list(&self.places[..self.sizes.places.n], out, |place, out| {
-                    out.put_decimal(u64::from(*place));
-                });
-                put_list(&self.records[..self.sizes.records.n], out, put_record);
+                put_list(&self.places[..self.sizes.places.n], out);
+                put_list(&self.records[..self.sizes.records.n], out);
             }
         }
-    }
-
-    // A table that is all zero and not live.
-    fn reset(&mut self, records: TableLength, places: TableLength) {
-        self.records = [rollcall_table::blank(); 1024];
-        self.places = [0; 1024];
-        self.sizes = Sizes {
-            records,
-            places,
-            count: 0,
-        };
-    }
-
-    fn call(&mut self, call: Call) -> Reply {
-        let Roster {
-            records,
-            places,
-            sizes,
-        } = self;
-        make(call, records, places, *sizes)
-    }
-
-    fn put(&self, answer: &[u8], out: &mut Output<'_>) {
-        out.put_bytes(answer);
-        out.put_byte(b' ');
-        // Rust has no From of a usize for a u64; nothing is lost.
-        out.put_decimal(self.sizes.count as u64);
     }
 }
 

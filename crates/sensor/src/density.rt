@@ -48,6 +48,7 @@ impl Reply<'_> {
         requires { place ≤ last_window self.now.marks.now }
         ensures { result ≡ dense_at self.now.marks.now limit place }
     {
-        self.window(place).is_dense(limit)
+        let (part, offset) = self.part_at(place);
+        windows::is_dense(part, offset, limit)
     }
 }

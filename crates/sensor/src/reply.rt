@@ -3,8 +3,7 @@ ghost use Rattle.std.specs.Prelude.{◌≤◌, ◌-◌, ◌≡◌, length};
 ghost use Rattle.message.specs.Message.{Bytes};
 ghost use Rattle.message.specs.Bits.{last_window};
 ghost use Rattle.sensor.specs.Changes.{marks_at};
-
-use windows::Window;
+ghost use Rattle.windows.specs.Windows.{window_bits};
 
 // The message and the marks: a bit 1 is a low mark.
 #[derive(Clone, Copy)]
@@ -32,13 +31,14 @@ impl Reply<'_> {
         (self.last_window() - place) as u32
     }
 
-    // The low marks of the window at a place, read from its first byte on.
+    // What the test of the window at a place is handed: the marks from the byte of its first bit on, and how far into that byte it
+    // starts.
     #[tactic(auto, using(crate::proofs::Marks::marks_at_lem))]
-    pub(crate) fn window(&self, place: usize) -> Window
+    pub(crate) fn part_at(&self, place: usize) -> (&[u8], usize)
         requires { place ≤ last_window self.now.marks.now }
-        ensures { result.marks ≡ marks_at self.now.marks.now place }
+        ensures { window_bits result.0.now result.1 ≡ marks_at self.now.marks.now place }
     {
         let start = self.last_window() - place;
-        Window::within(&self.marks[start / 8..], start % 8)
+        (&self.marks[start / 8..], start % 8)
     }
 }

@@ -72,7 +72,8 @@ impl Reply<'_> {
         requires { place ≤ last_window self.now.marks.now }
         ensures { result ≡ passes self.now.message.now self.now.marks.now place pattern }
     {
-        self.window(place).fits(pattern) && self.leaves_first_bit(place, pattern)
+        let (part, offset) = self.part_at(place);
+        windows::fits(part, offset, pattern) && self.leaves_first_bit(place, pattern)
     }
 
     // Whether the message with the pattern added at the place has a first bit that agrees with its length. The first bit is the

@@ -55,6 +55,7 @@ impl State {
     pub fn feed(&mut self, piece: &[u8], out: &mut [u8; 255616]) -> Result<usize, Refused>
         ensures refused_value { MatchResult result (λ _. is_refused self.old.ended piece.now ≡ false) (λ _. is_refused self.old.ended piece.now ≡ true) }
         ensures refused_by { IfErr result (λ r. refusal_of self.old.ended piece.now ≡ Some r) }
+        ensures refused_unchanged { IfErr result (λ _. self.new ≡ self.old) }
         ensures state_value { held_by self.new ≡ feed_held (held_by self.old) piece.now }
         ensures out_after { out.new ≡ feed_text (held_by self.old) piece.now ++ drop (length (feed_text (held_by self.old) piece.now)) out.old }
         ensures taken_value { IfOk result (λ taken. taken ≡ length (feed_text (held_by self.old) piece.now)) }

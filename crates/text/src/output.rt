@@ -38,14 +38,21 @@ impl<'a> Output<'a> {
         }
     }
 
-    // As many of the bytes as there is room for. Byte by byte, which is proved by the law of one byte alone: a copy of the part that
-    // fits would need its bounds and its place shown beside it.
-    #[tactic(auto, using(crate::proofs::Appending::appending, std::proofs::lemmas::Grind::common_steps))]
+    // As many of the bytes as there is room for. Where there is room for all they are copied at once: byte by byte, with buffer and
+    // count fetched and stored for each, a line of fixed words takes half as long again. Where there is not they go one by one, which is
+    // proved by the law of one byte alone.
+    #[tactic(auto, using(crate::proofs::Appending::appending, crate::proofs::Appending::copied, std::proofs::lemmas::Grind::common_steps))]
     pub fn put_bytes(&mut self, s: &[u8])
         ensures { Appends self.old self.new s.now }
     {
-        for &b in s {
-            self.put_byte(b);
+        if self.taken <= self.buffer.len() && s.len() <= self.buffer.len() - self.taken {
+            let end = self.taken + s.len();
+            self.buffer[self.taken..end].copy_from_slice(s);
+            self.taken = end;
+        } else {
+            for &b in s {
+                self.put_byte(b);
+            }
         }
     }
 

@@ -93,6 +93,25 @@ pub put_field : (first : ℕ) (s out : List ℕ) → length out ≡ 14 → put_m
 put_field first s [] h = absurd (omega arith)
 put_field first s (x ∷ out) h = ap (λ (l : List ℕ). first ∷ (s ++ l)) (Post-is 1 11 (first ∷ out) (omega arith))
 
+-- what comes back from the copy, and what the seal makes of it
+module _ (control n address : ℕ) (segments : List ℕ) (hc : control < 3) (hn : n < 16) (ha : address < 2 ^ 24) (fits : n * 10 + 10 ≤ length segments) where
+  pub transmitted : (out ys sealed : List ℕ) (from to : ℕ) → length out ≡ 14 → from ≡ n * 10 → to ≡ from + 10
+      → ys ≡ take (to - from) (drop from segments)
+      → sealed ≡ interrogation_after (put_mid 1 10 (set out 0 (192 + 16 * control + n)) ys) address
+      → sealed ≡ transmission address control n (segment_at segments n)
+  unfolding with_field
+  transmitted out ys sealed from to long ef et ey es =
+      es
+      ∙ ap (λ (m : List ℕ). interrogation_after m address)
+      (ap (put_mid 1 10 (set out 0 (192 + 16 * control + n))) (ey ∙ is) ∙ put_field (192 + 16 * control + n) (segment_at segments n) out long)
+      ∙ sealed-with control n (segment_at segments n) (segment-at-length segments n fits) address ha (omega arith) hn (drop 11 out) (length-drop 11 out ∙ omega (arith, long))
+    where
+      size : to - from ≡ 10
+      size = omega arith
+
+      is : take (to - from) (drop from segments) ≡ segment_at segments n
+      is = ap₂ (λ (x y : ℕ). take x (drop y segments)) size ef ∙ sym (segment-at segments n)
+
 -- each use of a segment has an RC below 4
 pub number_lt : (c : Control) → number_of c < 4
 number_lt Opening = omega arith

@@ -9,4 +9,4 @@ mod inverting;
 mod marks;
 
 pub use inverting::invert_window;
-pub use marks::{Window, is_sparse};
+pub use marks::{Window, fits, is_dense, is_sparse};

@@ -36,6 +36,21 @@ impl Window {
     }
 }
 
+// The tests of a window, each handed the part of the confidence buffer from the byte of the window's first bit on. More low marks
+// than the limit.
+pub fn is_dense(part: &[u8], offset: usize, limit: u32) -> bool
+    ensures { result ≡ ltb limit (ones (window_bits part.now offset)) }
+{
+    Window::within(part, offset).is_dense(limit)
+}
+
+// Every one of the pattern is on a low mark.
+pub fn fits(part: &[u8], offset: usize, pattern: u32) -> bool
+    ensures { result ≡ eqb (bit_and pattern (window_bits part.now offset)) pattern }
+{
+    Window::within(part, offset).fits(pattern)
+}
+
 // No more low marks than the limit in the four bytes: then none of the windows that start in the first byte is dense.
 pub fn is_sparse(part: &[u8], limit: u32) -> bool
     ensures { result ≡ leb (ones (four_bytes part.now)) limit }
