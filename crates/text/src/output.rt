@@ -61,9 +61,9 @@ impl<'a> Output<'a> {
     pub fn put_hex(&mut self, s: &[u8])
         ensures { Appends self.old self.new (hex_text s.now) }
     {
-        for &b in s {
-            self.put_byte(digit_of(b / 16));
-            self.put_byte(digit_of(b % 16));
+        for &byte in s {
+            self.put_byte(digit_of(byte / 16));
+            self.put_byte(digit_of(byte % 16));
         }
     }
 

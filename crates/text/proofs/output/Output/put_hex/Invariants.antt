@@ -4,5 +4,5 @@ use Rattle.text.specs.Digits.{hex_text}
 use Rattle.text.specs.Output.{Appends}
 use Rattle.text.proofs.output.Output.put_hex.Given as goal
 
-abbrev pub invariant-loop-b : goal.invariant-loop-b
-invariant-loop-b l = Appends l.initial.self l.self (hex_text (take l.b-index l.s))
+abbrev pub invariant-loop-byte : goal.invariant-loop-byte
+invariant-loop-byte l = Appends l.initial.self l.self (hex_text (take l.byte-index l.s))
